@@ -1,0 +1,13 @@
+pub mod Lists
+pub mod Groups
+pub mod Rows
+pub mod Checks
+pub mod Valid
+pub mod Numbering
+pub mod Comparing
+pub mod Reporting
+pub mod BoolLaws
+pub mod ListLaws
+pub mod ChainLaws
+pub mod WayLaws
+pub mod ValidLaws

@@ -1,0 +1,53 @@
+-- What it means that a row is valid, and that it is in standard numbering.
+use Prim.Native.Nat.{ℕ, zero, suc, _+_, _-_, _*_, _≤_, _<_}
+use mathlib.Core.Path.{_≡_}
+use mathlib.Core.Logic.{_⊎_}
+use mathlib.Core.List.{List, [], _∷_}
+use mathlib.Core.Bool.{Bool, true, false, _&&_}
+use lib.ListN.{length, getD}
+use Rattle.trees.specs.Lists.{range, count}
+use Rattle.trees.specs.Groups.{Group, before, member}
+use Rattle.trees.specs.Rows.{nodes, parent, rootMark, childOf, ends, inner}
+use Rattle.trees.specs.Checks.{Verdict, accepted, refused, counted, fewestSamples, mostSamples, rowWords, children, judged}
+
+-- A row that judging accepts (`judged-valid`, `valid-judged`).
+pub record Valid (n : ℕ) (r : List ℕ) : Type 0 where
+  pub least : fewestSamples ≤ n
+  pub most : n ≤ mostSamples
+  pub words : length r ≡ rowWords n
+  pub low : n < nodes r
+  pub high : nodes r < rowWords n
+  pub leaf : (s : ℕ) → s < n → (n ≤ parent r s) × (parent r s < nodes r)
+  pub up : (v : ℕ) → n ≤ v → v < nodes r → (parent r v ≡ rootMark) ⊎ ((n ≤ parent r v) × (parent r v < nodes r))
+  pub one : count (childOf r rootMark) (range n (nodes r)) ≡ 1
+  pub filler : (w : ℕ) → nodes r < w → w < rowWords n → getD r w 0 ≡ 0
+  pub reach : (v : ℕ) → v < nodes r → ends (nodes r) r v ≡ true
+  pub two : (v : ℕ) → n ≤ v → v < nodes r → 2 ≤ children r v
+
+-- g is one of gs
+abbrev pub In : Group → List Group → Type 0
+In g gs = member g gs ≡ true
+
+-- each group before all later ones
+abbrev pub Strict : List Group → Type 0
+Strict [] = Unit {0}
+Strict (g ∷ gs) = ((h : Group) → In h gs → before g h ≡ true) × Strict gs
+
+-- A valid row in standard numbering: "stored and reported rows have this form".
+pub record Standard (n : ℕ) (r : List ℕ) : Type 0 where
+  pub valid : Valid n r
+  pub strict : Strict (inner n r)
+
+-- Standard, as a test (`standard-to`, `standard-from`).
+abbrev pub isAccepted : Verdict → Bool
+isAccepted accepted = true
+isAccepted (refused k p) = false
+isAccepted (counted a b c) = false
+
+unfoldable pub inOrder : List Group → Bool
+inOrder [] = true
+inOrder (g ∷ []) = true
+inOrder (g ∷ h ∷ gs) = before g h && inOrder (h ∷ gs)
+
+unfoldable pub standard : ℕ → List ℕ → Bool
+standard n r = isAccepted (judged n r) && inOrder (inner n r)

@@ -1,0 +1,183 @@
+-- Judging accepts a row exactly if it is valid, and what its refusals mean. Assumes nothing.
+use Prim.Native.Nat.{ℕ, zero, suc, _+_, _-_, _*_, _≤_, _<_, zero-le}
+use mathlib.Core.Path.{_≡_, refl, sym, ap, _∙_}
+use mathlib.Core.Logic.{_↔_, _⊎_, inl, inr, ⊎-elim}
+use mathlib.Core.List.{List, [], _∷_, List·Memᴰ, List·Memᴰ·head, List·Memᴰ·tail}
+use mathlib.Core.Bool.{Bool, true, false, _&&_, _||_, not, cond, false≢true, true≢false}
+use native.Mathlib.Nat.{le-of-suc-le-suc}
+use native.Mathlib.Omega.{arith}
+use lib.Dec.{eqb, ltb, leb}
+use lib.ListN.{length, getD}
+use lib.Seq.{ext-getD}
+use borrow.Author.Tests.{eqb-true, eqb-false, ltb-true, ltb-false, leb-true, eq-eqb, ne-eqb, lt-ltb, le-ltb, le-leb, lt-leb, not-true, not-false}
+use Rattle.trees.specs.Lists.{tabulate, weigh, Place, nowhere, at, range, first, count}
+use Rattle.trees.specs.Rows.{nodes, parent, rootMark, childOf, ends}
+use Rattle.trees.specs.Checks.{Verdict, accepted, refused, counted, fewestSamples, mostSamples, rowWords, Check, line, outside, isInner, stray, children, check1, check3, check5, check6, check7, check8, check9, check10, rowChecks, judgeChecks, judged, _⊳_}
+use Rattle.trees.specs.Valid.{Valid, isAccepted}
+use Rattle.trees.specs.BoolLaws.{and-l, and-r, and-both, or-cases, or-l, or-r, or-none, not-yes, decide}
+use Rattle.trees.specs.ListLaws.{range-cons, range-none, first-lowest, first-nowhere, nowhere-first, Lowest}
+use Rattle.trees.specs.ChainLaws.{Passed, passed-chain, chain-passed, isRising, numbers, Exactly, refused-exactly, exactly-at, line-passes, Given, here, later, chain-given}
+use Rattle.trees.specs.WayLaws.{Closed, ends-enough}
+
+-- ---- the tests behind the checks
+
+pub outside-not : (a b x : ℕ) → outside a b x ≡ false → (a ≤ x) × (x ≤ b)
+outside-not a b x e = let t = or-none (ltb x a) (ltb b x) e in (ltb-false x a (t .0), ltb-false b x (t .1))
+
+pub not-outside : (a b x : ℕ) → a ≤ x → x ≤ b → outside a b x ≡ false
+not-outside a b x h k = rw (le-ltb x a h, le-ltb b x k)
+
+pub inner-to : (n m p : ℕ) → isInner n m p ≡ true → (n ≤ p) × (p < m)
+inner-to n m p e = (leb-true n p (and-l (leb n p) (ltb p m) e), ltb-true p m (and-r (leb n p) (ltb p m) e))
+
+pub inner-from : (n m p : ℕ) → n ≤ p → p < m → isInner n m p ≡ true
+inner-from n m p h k = rw (le-leb n p h, lt-ltb p m k)
+
+-- what a node's parent is, where it is not astray
+pub stray-not : (n m v p : ℕ) → stray n m v p ≡ false → ((n ≤ p) × (p < m)) ⊎ ((n ≤ v) × (p ≡ rootMark))
+stray-not n m v p e = ⊎-elim (λ a. inl (inner-to n m p a)) (λ b. inr (leb-true n v (and-l (leb n v) (eqb p rootMark) b), eqb-true p rootMark (and-r (leb n v) (eqb p rootMark) b)))
+    (or-cases (isInner n m p) (leb n v && eqb p rootMark) (not-false _ e))
+
+-- after check 6 the parents of nodes are nodes
+pub check6-closed : (n : ℕ) (r : List ℕ) → check6 n r .fault ≡ nowhere → Closed (nodes r) r
+check6-closed n r e v h q = ⊎-elim (λ a. a .1) (λ b. absurd (eqb-false (parent r v) rootMark q (b .1))) (stray-not n (nodes r) v (parent r v) (first-nowhere _ 0 (nodes r) e v zero-le h))
+
+-- ---- acceptance is validity
+
+module _ (n : ℕ) (r : List ℕ) where
+  passed-valid : Passed (judgeChecks n r) → Valid n r
+  unfolding judgeChecks rowChecks
+  passed-valid h =
+      let b = outside-not fewestSamples mostSamples n (line-passes 1 (outside fewestSamples mostSamples n) (h .0)) in
+      let w = eqb-true (length r) (rowWords n) (not-false _ (line-passes 3 (not (eqb (length r) (rowWords n))) (h .1 .0))) in
+      let m = outside-not (n + 1) (rowWords n - 1) (nodes r) (line-passes 5 (outside (n + 1) (rowWords n - 1) (nodes r)) (h .1 .1 .0)) in
+      let p : (v : ℕ) → v < nodes r → ((n ≤ parent r v) × (parent r v < nodes r)) ⊎ ((n ≤ v) × (parent r v ≡ rootMark)) = λ v l. stray-not n (nodes r) v (parent r v) (first-nowhere _ 0 (nodes r) (h .1 .1 .1 .0) v zero-le l) in
+      record {
+        least = b .0;
+        most = b .1;
+        words = w;
+        low = omega arith;
+        high = omega arith;
+        leaf = λ s l. ⊎-elim (λ a. a) (λ a. absurd (omega arith)) (p s (omega arith));
+        up = λ v a l. ⊎-elim (λ q. inr q) (λ q. inl (q .1)) (p v l);
+        one = eqb-true _ _ (not-false _ (line-passes 7 (not (eqb (count (childOf r rootMark) (range n (nodes r))) 1)) (h .1 .1 .1 .1 .0)));
+        filler = λ i a l. eqb-true _ _ (not-false _ (first-nowhere _ (nodes r + 1) (rowWords n) (h .1 .1 .1 .1 .1 .0) i (omega arith) l));
+        reach = λ v l. not-false _ (first-nowhere _ 0 (nodes r) (h .1 .1 .1 .1 .1 .1 .0) v zero-le l);
+        two = λ v a l. ltb-false _ _ (first-nowhere _ n (nodes r) (h .1 .1 .1 .1 .1 .1 .1 .0) v a l);
+      }
+
+  valid-passed : Valid n r → Passed (judgeChecks n r)
+  unfolding judgeChecks rowChecks
+  valid-passed ok = (
+    rw (not-outside fewestSamples mostSamples n (ok .least) (ok .most)),
+    (
+      rw (eq-eqb (length r) (rowWords n) (ok .words)),
+      (
+        rw (not-outside (n + 1) (rowWords n - 1) (nodes r) (omega (arith, ok .low)) (omega (arith, ok .high))),
+        (
+          nowhere-first _ 0 (nodes r) (λ v a l. node v l (decide (ltb v n))),
+          (
+            rw (eq-eqb (count (childOf r rootMark) (range n (nodes r))) 1 (ok .one)),
+            (
+              nowhere-first _ (nodes r + 1) (rowWords n) (λ w a l. rw (eq-eqb (getD r w 0) 0 (ok .filler w (omega arith) l))),
+              (
+                nowhere-first _ 0 (nodes r) (λ v a l. rw (ok .reach v l)),
+                (nowhere-first _ n (nodes r) (λ v a l. le-ltb (children r v) 2 (ok .two v a l)), tt),
+              ),
+            ),
+          ),
+        ),
+      ),
+    ),
+  )
+    where
+      inside : (v : ℕ) → (n ≤ parent r v) × (parent r v < nodes r) → stray n (nodes r) v (parent r v) ≡ false
+      inside v t = rw (inner-from n (nodes r) (parent r v) (t .0) (t .1))
+
+      node : (v : ℕ) → v < nodes r → (ltb v n ≡ true) ⊎ (ltb v n ≡ false) → stray n (nodes r) v (parent r v) ≡ false
+      node v l (inl e) = inside v (ok .leaf v (ltb-true v n e))
+      node v l (inr e) = ⊎-elim (λ q. root v (ltb-false v n e) q) (inside v) (ok .up v (ltb-false v n e) l)
+        where
+          root : (u : ℕ) → n ≤ u → parent r u ≡ rootMark → stray n (nodes r) u (parent r u) ≡ false
+          root u a q = ap not (or-r (isInner n (nodes r) (parent r u)) (leb n u && eqb (parent r u) rootMark) (and-both _ _ (le-leb n u a) (eq-eqb _ _ q)))
+
+  pub judged-valid : judged n r ≡ accepted → Valid n r
+  unfolding judged
+  judged-valid e = passed-valid (chain-passed (judgeChecks n r) e)
+
+  pub valid-judged : Valid n r → judged n r ≡ accepted
+  unfolding judged
+  valid-judged ok = passed-chain (judgeChecks n r) accepted (valid-passed ok)
+
+  -- the calls that have checked n and the length ask the rest alone
+  pub valid-row : Valid n r → (v : Verdict) → rowChecks n r ⊳ v ≡ v
+  unfolding judgeChecks
+  valid-row ok v = passed-chain (rowChecks n r) v (valid-passed ok .1 .1)
+
+  pub judged-rising : isRising (numbers (judgeChecks n r)) ≡ true
+  unfolding judgeChecks rowChecks isRising
+  judged-rising = refl
+
+  -- ---- DEMAND 1 of judging: a number is given exactly when its line applies and no line of a smaller number does
+
+  pub judged-exactly : (k p : ℕ) → (judged n r ≡ refused k p) ↔ Exactly k p (judgeChecks n r)
+  unfolding judged
+  judged-exactly k p = refused-exactly (judgeChecks n r) accepted k p judged-rising (λ e. let z : _≡_ {A = ℕ} 0 1 = cc in omega arith)
+
+  pub judged-numbers : numbers (judgeChecks n r) ≡ (1 ∷ 3 ∷ 5 ∷ 6 ∷ 7 ∷ 8 ∷ 9 ∷ 10 ∷ [])
+  unfolding judgeChecks rowChecks
+  judged-numbers = refl
+
+  listed6 : List·Memᴰ (check6 n r) (judgeChecks n r)
+  unfolding judgeChecks rowChecks
+  listed6 = List·Memᴰ·tail (List·Memᴰ·tail (List·Memᴰ·tail (List·Memᴰ·head refl)))
+
+  listed9 : List·Memᴰ (check9 n r) (judgeChecks n r)
+  unfolding judgeChecks rowChecks
+  listed9 = List·Memᴰ·tail (List·Memᴰ·tail (List·Memᴰ·tail (List·Memᴰ·tail (List·Memᴰ·tail (List·Memᴰ·tail (List·Memᴰ·head refl))))))
+
+  -- ---- number 9: "never" is for any number of steps, and every node below the place does come to the root
+
+  pub judged-never : (p : ℕ) → judged n r ≡ refused 9 p → ((f : ℕ) → ends f r p ≡ false) × ((u : ℕ) → u < p → ends (nodes r) r u ≡ true)
+  judged-never p e = (λ f. not-yes _ (λ q. false≢true (sym (not-true _ (low .passes)) ∙ ends-enough r (nodes r) closed f p (low .to) q)), λ u h. not-false _ (low .none u zero-le h))
+    where
+      w : Exactly 9 p (judgeChecks n r)
+      w = judged-exactly 9 p .0 e
+
+      low : Lowest (λ v. not (ends (nodes r) r v)) 0 (nodes r) p
+      low = first-lowest _ 0 (nodes r) p (exactly-at (judgeChecks n r) 9 p judged-rising w (check9 n r) listed9 refl)
+
+      closed : Closed (nodes r) r
+      closed = check6-closed n r (w .earlier (check6 n r) listed6 (omega arith))
+
+-- ---- specimens that no computation shows
+
+-- n = 2 has one tree
+pub only-two : (r : List ℕ) → judged 2 r ≡ accepted → r ≡ (3 ∷ 2 ∷ 2 ∷ rootMark ∷ [])
+unfolding nodes parent weigh tabulate
+only-two r e = words r (judged-valid 2 r e)
+  where
+    words : (q : List ℕ) → Valid 2 q → q ≡ (3 ∷ 2 ∷ 2 ∷ rootMark ∷ [])
+    words q ok = ext-getD 0 q (3 ∷ 2 ∷ 2 ∷ rootMark ∷ []) (ok .words) at-word
+      where
+        m : nodes q ≡ 3
+        m = omega (arith, ok .low, ok .high)
+
+        leaf : (s : ℕ) → s < 2 → parent q s ≡ 2
+        leaf s h = omega (arith, ok .leaf s h, m)
+
+        root : (b : Bool) → childOf q rootMark 2 ≡ b → parent q 2 ≡ rootMark
+        root true p = eqb-true (parent q 2) rootMark p
+        root false p = absurd (omega (arith, rw (m, p) at (ok .one)))
+
+        at-word : (i : ℕ) → i < length q → getD q i 0 ≡ getD (3 ∷ 2 ∷ 2 ∷ rootMark ∷ []) i 0
+        at-word zero h = m
+        at-word (suc zero) h = leaf 0 (omega arith)
+        at-word (suc (suc zero)) h = leaf 1 (omega arith)
+        at-word (suc (suc (suc zero))) h = root (childOf q rootMark 2) refl
+        at-word (suc (suc (suc (suc i)))) h = absurd (omega (arith, ok .words))
+
+-- an m out of range is refused whatever the other words are
+pub nodes-refused : (n m : ℕ) (ws : List ℕ) → fewestSamples ≤ n → n ≤ mostSamples → length (m ∷ ws) ≡ rowWords n → outside (n + 1) (rowWords n - 1) m ≡ true → judged n (m ∷ ws) ≡ refused 5 0
+unfolding judged judgeChecks rowChecks _⊳_ nodes
+nodes-refused n m ws a b l e = rw (not-outside fewestSamples mostSamples n a b, eq-eqb (length (m ∷ ws)) (rowWords n) l, e)
