@@ -1,7 +1,7 @@
 -- Tests taken apart and put together. Assumes nothing.
 use mathlib.Core.Path.{_≡_, refl, sym}
 use mathlib.Core.Logic.{_⊎_, inl, inr}
-use mathlib.Core.Bool.{Bool, true, false, _&&_, _||_, not, false≢true}
+use mathlib.Core.Bool.{Bool, true, false, _&&_, _||_}
 
 pub and-l : (a b : Bool) → a && b ≡ true → a ≡ true
 and-l true b e = refl

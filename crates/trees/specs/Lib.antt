@@ -10,4 +10,16 @@ pub mod BoolLaws
 pub mod ListLaws
 pub mod ChainLaws
 pub mod WayLaws
+pub mod CheckLaws
 pub mod ValidLaws
+pub mod GroupLaws
+pub mod OrderLaws
+pub mod MemberLaws
+pub mod RowOfLaws
+pub mod FamilyLaws
+pub mod RowLaws
+pub mod PlantingLaws
+pub mod StandardLaws
+pub mod NumberingLaws
+pub mod ComparingLaws
+pub mod ReportingLaws

@@ -2,15 +2,15 @@
 use Prim.Native.Nat.{ℕ, zero, suc, _+_, _-_, _*_, _≤_, _<_, zero-le, suc-le-suc}
 use mathlib.Core.Path.{_≡_, refl, sym, ap, _∙_}
 use mathlib.Core.Logic.{_⊎_, inl, inr, ⊎-elim}
-use mathlib.Core.List.{List, [], _∷_, _++_, List·Memᴰ, List·Memᴰ·head, List·Memᴰ·tail}
+use mathlib.Core.List.{List, [], _∷_, _++_, List·Memᴰ, List·Memᴰ·head, List·Memᴰ·tail, map}
 use mathlib.Core.Bool.{Bool, true, false, _&&_, _||_, not, cond, false≢true}
 use native.Mathlib.Nat.{le-of-suc-le-suc, suc-inj, add-zero, add-suc, suc-add, eq-or-lt-of-le}
 use native.Mathlib.Omega.{arith}
 use lib.Dec.{eqb, ltb}
-use lib.ListN.{length, getD, take, drop, take-append-drop, length-take, length-drop}
+use lib.ListN.{length, getD, take, drop, take-append-drop, length-drop, length-replicate}
 use borrow.Author.Tests.{ltb-true, ltb-false, eqb-true, eqb-false, eq-eqb, ne-eqb, not-true}
-use Rattle.trees.specs.Lists.{tabulate, range, filter, Place, nowhere, at, first, weigh, count}
-use Rattle.trees.specs.BoolLaws.{and-l, and-r, and-both, or-cases, or-l, or-r, not-yes, decide}
+use Rattle.trees.specs.Lists.{tabulate, zeros, range, Place, nowhere, at, first, weigh, count}
+use Rattle.trees.specs.BoolLaws.{and-l, and-r, or-cases, or-r, not-yes, decide}
 
 -- ---- tables
 
@@ -45,6 +45,19 @@ module _ {A : Type 0} where
   unfolding tabulate
   tabulate-same zero f g s h = refl
   tabulate-same (suc n) f g s h = cc (h s (omega arith) (omega arith), tabulate-same n f g (suc s) (λ v a b. h v (omega arith) (omega arith)))
+
+pub map-tabulate : {A B : Type 0} (g : A → B) (n : ℕ) (f : ℕ → A) (s : ℕ) → map g (tabulate n f s) ≡ tabulate n (λ v. g (f v)) s
+unfolding tabulate
+map-tabulate g zero f s = refl
+map-tabulate g (suc n) f s = ap (λ (xs : List _). g (f s) ∷ xs) (map-tabulate g n f (suc s))
+
+pub length-zeros : (n : ℕ) → length (zeros n) ≡ n
+length-zeros n = length-replicate n 0
+
+pub getD-zeros : (n i : ℕ) → getD (zeros n) i 0 ≡ 0
+getD-zeros zero i = refl
+getD-zeros (suc n) zero = refl
+getD-zeros (suc n) (suc i) = getD-zeros n i
 
 -- ---- ranges
 

@@ -1,12 +1,17 @@
 -- Lists of values: tables, ranges, those that pass a test, the lowest of them, and what they weigh together.
 use Prim.Native.Nat.{ℕ, zero, suc, _+_, _-_}
 use mathlib.Core.List.{List, [], _∷_}
-use mathlib.Core.Bool.{Bool, true, false, cond}
+use mathlib.Core.Bool.{Bool, cond}
+use lib.ListN.{replicate}
 
 -- the n values f s, f (s + 1) and so on
 unfoldable pub tabulate : {A : Type 0} → ℕ → (ℕ → A) → ℕ → List A
 tabulate zero f s = []
 tabulate (suc n) f s = f s ∷ tabulate n f (suc s)
+
+-- n words 0
+abbrev pub zeros : ℕ → List ℕ
+zeros n = replicate n 0
 
 -- the numbers from a to below b
 abbrev pub range : ℕ → ℕ → List ℕ

@@ -3,8 +3,7 @@ use Prim.Native.Nat.{ℕ, _+_, _-_, _*_, _/_}
 use mathlib.Core.List.{List, [], _∷_, _++_, map}
 use mathlib.Core.Bool.{Bool, true}
 use lib.Dec.{ltb}
-use lib.ListN.{length, replicate}
-use Rattle.trees.specs.Lists.{filter, weigh}
+use Rattle.trees.specs.Lists.{filter, weigh, zeros}
 use Rattle.trees.specs.Groups.{Group}
 use Rattle.trees.specs.Rows.{nodes, groups, holds}
 use Rattle.trees.specs.Checks.{rowWords}
@@ -50,7 +49,7 @@ agreed rule n rs = rowOf n (branching (shown rule n rs))
 
 -- "In the support row word 0 is k, word 1+v is the number of runs holding the group of node v, and filler is 0."
 unfoldable pub supports : Rule → ℕ → List Run → List ℕ
-supports rule n rs = let r = agreed rule n rs in total rs ∷ (map (support n rs) (groups n r) ++ replicate (rowWords n - 1 - nodes r) 0)
+supports rule n rs = let r = agreed rule n rs in total rs ∷ (map (support n rs) (groups n r) ++ zeros (rowWords n - 1 - nodes r))
 
 -- how many runs are tried for groups that a majority may hold (`majority-early`)
 abbrev pub references : ℕ → ℕ

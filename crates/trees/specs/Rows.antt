@@ -1,7 +1,7 @@
 -- A row: one tree in 2n words, its nodes, its parents and its groups.
 use Prim.Native.Nat.{ℕ, zero, suc, _-_}
 use mathlib.Core.List.{List}
-use mathlib.Core.Bool.{Bool, true, false, _&&_, _||_, not}
+use mathlib.Core.Bool.{Bool, false, _&&_, _||_, not}
 use lib.Dec.{eqb}
 use lib.ListN.{getD}
 use Rattle.trees.specs.Lists.{tabulate}

@@ -1,46 +1,23 @@
 -- Judging accepts a row exactly if it is valid, and what its refusals mean. Assumes nothing.
-use Prim.Native.Nat.{ℕ, zero, suc, _+_, _-_, _*_, _≤_, _<_, zero-le}
+use Prim.Native.Nat.{ℕ, zero, suc, _+_, _-_, _≤_, _<_, zero-le}
 use mathlib.Core.Path.{_≡_, refl, sym, ap, _∙_}
 use mathlib.Core.Logic.{_↔_, _⊎_, inl, inr, ⊎-elim}
 use mathlib.Core.List.{List, [], _∷_, List·Memᴰ, List·Memᴰ·head, List·Memᴰ·tail}
-use mathlib.Core.Bool.{Bool, true, false, _&&_, _||_, not, cond, false≢true, true≢false}
-use native.Mathlib.Nat.{le-of-suc-le-suc}
+use mathlib.Core.Bool.{Bool, true, false, _&&_, not, false≢true}
 use native.Mathlib.Omega.{arith}
 use lib.Dec.{eqb, ltb, leb}
 use lib.ListN.{length, getD}
 use lib.Seq.{ext-getD}
-use borrow.Author.Tests.{eqb-true, eqb-false, ltb-true, ltb-false, leb-true, eq-eqb, ne-eqb, lt-ltb, le-ltb, le-leb, lt-leb, not-true, not-false}
-use Rattle.trees.specs.Lists.{tabulate, weigh, Place, nowhere, at, range, first, count}
+use borrow.Author.Tests.{eqb-true, ltb-true, ltb-false, eq-eqb, le-ltb, le-leb, not-true, not-false}
+use Rattle.trees.specs.Lists.{tabulate, weigh, at, range, count}
 use Rattle.trees.specs.Rows.{nodes, parent, rootMark, childOf, ends}
-use Rattle.trees.specs.Checks.{Verdict, accepted, refused, counted, fewestSamples, mostSamples, rowWords, Check, line, outside, isInner, stray, children, check1, check3, check5, check6, check7, check8, check9, check10, rowChecks, judgeChecks, judged, _⊳_}
-use Rattle.trees.specs.Valid.{Valid, isAccepted}
-use Rattle.trees.specs.BoolLaws.{and-l, and-r, and-both, or-cases, or-l, or-r, or-none, not-yes, decide}
-use Rattle.trees.specs.ListLaws.{range-cons, range-none, first-lowest, first-nowhere, nowhere-first, Lowest}
-use Rattle.trees.specs.ChainLaws.{Passed, passed-chain, chain-passed, isRising, numbers, Exactly, refused-exactly, exactly-at, line-passes, Given, here, later, chain-given}
+use Rattle.trees.specs.Checks.{Verdict, accepted, refused, fewestSamples, mostSamples, rowWords, outside, isInner, stray, children, check6, check9, rowChecks, judgeChecks, judged, _⊳_}
+use Rattle.trees.specs.Valid.{Valid}
+use Rattle.trees.specs.BoolLaws.{and-both, or-r, not-yes, decide}
+use Rattle.trees.specs.ListLaws.{first-lowest, first-nowhere, nowhere-first, Lowest}
+use Rattle.trees.specs.ChainLaws.{Passed, passed-chain, chain-passed, Exactly, refused-exactly, exactly-at, line-passes}
+use Rattle.trees.specs.CheckLaws.{judged-rising, outside-not, not-outside, inner-from, stray-not, check6-closed}
 use Rattle.trees.specs.WayLaws.{Closed, ends-enough}
-
--- ---- the tests behind the checks
-
-pub outside-not : (a b x : ℕ) → outside a b x ≡ false → (a ≤ x) × (x ≤ b)
-outside-not a b x e = let t = or-none (ltb x a) (ltb b x) e in (ltb-false x a (t .0), ltb-false b x (t .1))
-
-pub not-outside : (a b x : ℕ) → a ≤ x → x ≤ b → outside a b x ≡ false
-not-outside a b x h k = rw (le-ltb x a h, le-ltb b x k)
-
-pub inner-to : (n m p : ℕ) → isInner n m p ≡ true → (n ≤ p) × (p < m)
-inner-to n m p e = (leb-true n p (and-l (leb n p) (ltb p m) e), ltb-true p m (and-r (leb n p) (ltb p m) e))
-
-pub inner-from : (n m p : ℕ) → n ≤ p → p < m → isInner n m p ≡ true
-inner-from n m p h k = rw (le-leb n p h, lt-ltb p m k)
-
--- what a node's parent is, where it is not astray
-pub stray-not : (n m v p : ℕ) → stray n m v p ≡ false → ((n ≤ p) × (p < m)) ⊎ ((n ≤ v) × (p ≡ rootMark))
-stray-not n m v p e = ⊎-elim (λ a. inl (inner-to n m p a)) (λ b. inr (leb-true n v (and-l (leb n v) (eqb p rootMark) b), eqb-true p rootMark (and-r (leb n v) (eqb p rootMark) b)))
-    (or-cases (isInner n m p) (leb n v && eqb p rootMark) (not-false _ e))
-
--- after check 6 the parents of nodes are nodes
-pub check6-closed : (n : ℕ) (r : List ℕ) → check6 n r .fault ≡ nowhere → Closed (nodes r) r
-check6-closed n r e v h q = ⊎-elim (λ a. a .1) (λ b. absurd (eqb-false (parent r v) rootMark q (b .1))) (stray-not n (nodes r) v (parent r v) (first-nowhere _ 0 (nodes r) e v zero-le h))
 
 -- ---- acceptance is validity
 
@@ -114,19 +91,11 @@ module _ (n : ℕ) (r : List ℕ) where
   unfolding judgeChecks
   valid-row ok v = passed-chain (rowChecks n r) v (valid-passed ok .1 .1)
 
-  pub judged-rising : isRising (numbers (judgeChecks n r)) ≡ true
-  unfolding judgeChecks rowChecks isRising
-  judged-rising = refl
-
   -- ---- DEMAND 1 of judging: a number is given exactly when its line applies and no line of a smaller number does
 
   pub judged-exactly : (k p : ℕ) → (judged n r ≡ refused k p) ↔ Exactly k p (judgeChecks n r)
   unfolding judged
-  judged-exactly k p = refused-exactly (judgeChecks n r) accepted k p judged-rising (λ e. let z : _≡_ {A = ℕ} 0 1 = cc in omega arith)
-
-  pub judged-numbers : numbers (judgeChecks n r) ≡ (1 ∷ 3 ∷ 5 ∷ 6 ∷ 7 ∷ 8 ∷ 9 ∷ 10 ∷ [])
-  unfolding judgeChecks rowChecks
-  judged-numbers = refl
+  judged-exactly k p = refused-exactly (judgeChecks n r) accepted k p (judged-rising n r) (λ e. let z : _≡_ {A = ℕ} 0 1 = cc in omega arith)
 
   listed6 : List·Memᴰ (check6 n r) (judgeChecks n r)
   unfolding judgeChecks rowChecks
@@ -145,7 +114,7 @@ module _ (n : ℕ) (r : List ℕ) where
       w = judged-exactly 9 p .0 e
 
       low : Lowest (λ v. not (ends (nodes r) r v)) 0 (nodes r) p
-      low = first-lowest _ 0 (nodes r) p (exactly-at (judgeChecks n r) 9 p judged-rising w (check9 n r) listed9 refl)
+      low = first-lowest _ 0 (nodes r) p (exactly-at (judgeChecks n r) 9 p (judged-rising n r) w (check9 n r) listed9 refl)
 
       closed : Closed (nodes r) r
       closed = check6-closed n r (w .earlier (check6 n r) listed6 (omega arith))

@@ -1,13 +1,12 @@
 -- The way up in any row: what is met on it, and that it ends within as many steps as there are nodes, or never. Assumes nothing.
 use Prim.Native.Nat.{ℕ, zero, suc, _+_, _≤_, _<_, zero-le}
-use mathlib.Core.Path.{_≡_, refl, sym, ap, _∙_}
+use mathlib.Core.Path.{_≡_, refl, sym, _∙_}
 use mathlib.Core.Logic.{_⊎_, inl, inr}
 use mathlib.Core.List.{List}
 use mathlib.Core.Bool.{Bool, true, false, _&&_, _||_, not, false≢true}
 use native.Mathlib.Nat.{le-of-suc-le-suc, eq-or-lt-of-le, zero-add, suc-add, add-zero, add-suc}
 use native.Mathlib.Omega.{arith}
 use lib.Dec.{eqb}
-use lib.ListN.{length}
 use borrow.Author.Tests.{eqb-true, eqb-false, eq-eqb, not-true}
 use Rattle.trees.specs.Lists.{range, count}
 use Rattle.trees.specs.Rows.{parent, rootMark, childOf, meets, ends}

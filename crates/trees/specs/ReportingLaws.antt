@@ -1,0 +1,197 @@
+-- What a rule shows is a tree, where what it shows agrees pairwise; the majority rule shows exactly the majority groups. Assumes nothing.
+use Prim.Native.Nat.{ℕ, zero, suc, _+_, _-_, _*_, _≤_, _<_}
+use mathlib.Core.Path.{_≡_, refl, sym, ap, _∙_}
+use mathlib.Core.Logic.{⊎-elim}
+use mathlib.Core.List.{List, [], _∷_, _++_, List·Memᴰ, List·Memᴰ·head, List·Memᴰ·tail}
+use mathlib.Core.Bool.{true, _&&_}
+use native.Mathlib.Nat.{zero-add}
+use native.Mathlib.Omega.{arith}
+use lib.Dec.{ltb}
+use lib.ListN.{length, getD, take, length-append, List·getD-append}
+use lib.Seq.{getD-append-add}
+use borrow.Author.Tests.{ltb-true, lt-ltb}
+use Rattle.trees.specs.Lists.{tabulate, zeros}
+use Rattle.trees.specs.Groups.{Group, whole, single, member}
+use Rattle.trees.specs.Rows.{nodes, groupAt, groups, inner, holds}
+use Rattle.trees.specs.Checks.{fewestSamples, mostSamples, rowWords}
+use Rattle.trees.specs.Valid.{Valid, In, Strict, Standard}
+use Rattle.trees.specs.Numbering.{ordered, branching}
+use Rattle.trees.specs.Reporting.{Run, worth, support, total, Rule, majority, held, shown, agreed, supports, references}
+use Rattle.trees.specs.BoolLaws.{and-l, and-r, and-both, or-cases, or-l, or-r, true-eq}
+use Rattle.trees.specs.ListLaws.{length-tabulate, getD-tabulate, map-tabulate, length-zeros, getD-zeros, weigh-mono, weigh-found, weigh-both, count-all, count-early}
+use Rattle.trees.specs.GroupLaws.{Agree}
+use Rattle.trees.specs.MemberLaws.{in-none, member-ordered, member-append, member-filter, strict-ordered, strict-filter}
+use Rattle.trees.specs.RowLaws.{groups-in}
+use Rattle.trees.specs.PlantingLaws.{planted}
+use Rattle.trees.specs.NumberingLaws.{Tree, row-tree, tree-family, tree-standard, tree-groups}
+
+-- each run has a valid row
+abbrev pub Runs : ℕ → List Run → Type 0
+Runs n rs = (run : Run) → List·Memᴰ run rs → Valid n (run .row)
+
+-- some run holds g
+abbrev pub Holder : ℕ → Group → List Run → Type 0
+Holder n g rs = (run : Run) × List·Memᴰ run rs × (holds n g (run .row) ≡ true)
+
+-- ---- what the runs hold
+
+pub in-held : (n : ℕ) (rs : List Run) (g : Group) → Holder n g rs → In g (held n rs)
+unfolding held
+in-held n (r ∷ rs) g (run, List·Memᴰ·head e, m) = member-append g (groups n (r .row)) (held n rs) ∙ or-l _ (member g (held n rs)) (ap (λ (q : Run). holds n g (q .row)) (sym e) ∙ m)
+in-held n (r ∷ rs) g (run, List·Memᴰ·tail d, m) = member-append g (groups n (r .row)) (held n rs) ∙ or-r (member g (groups n (r .row))) _ (in-held n rs g (run, d, m))
+
+pub held-in : (n : ℕ) (rs : List Run) (g : Group) → In g (held n rs) → Holder n g rs
+unfolding held
+held-in n [] g m = absurd (in-none g m)
+held-in n (r ∷ rs) g m = ⊎-elim (λ e. (r, List·Memᴰ·head refl, e)) (λ e. let t = held-in n rs g e in (t .0, List·Memᴰ·tail (t .1), t .2)) (or-cases (holds n g (r .row)) (member g (held n rs)) (sym (member-append g (groups n (r .row)) (held n rs)) ∙ m))
+
+-- ---- any rule
+
+-- what the laws ask of a rule: what it shows agrees pairwise, and a group that every run holds passes
+pub record Sound (rule : Rule) (n : ℕ) (rs : List Run) : Type 0 where
+  pub agree : (g h : Group) → In g (shown rule n rs) → In h (shown rule n rs) → Agree g h
+  pub unanimous : (g : Group) → ((run : Run) → List·Memᴰ run rs → holds n g (run .row) ≡ true) → rule n rs g ≡ true
+
+-- a group is shown exactly if it passes and some run holds it
+pub shown-member : (rule : Rule) (n : ℕ) (rs : List Run) (g : Group) → member g (shown rule n rs) ≡ (rule n rs g && member g (held n rs))
+unfolding shown
+shown-member rule n rs g = rw (member-filter, member-ordered)
+
+shown-strict : (rule : Rule) (n : ℕ) (rs : List Run) → Strict (shown rule n rs)
+unfolding shown
+shown-strict rule n rs = strict-filter (rule n rs) (ordered (held n rs)) (strict-ordered (held n rs))
+
+module _ (rule : Rule) (n : ℕ) (rs : List Run) (ok : Runs n rs) (some : 0 < length rs) (sound : Sound rule n rs) where
+  holder : (g : Group) → In g (shown rule n rs) → Holder n g rs
+  holder g m = held-in n rs g (and-r (rule n rs g) (member g (held n rs)) (sym (shown-member rule n rs g) ∙ m))
+
+  first-run : (xs : List Run) → 0 < length xs → (run : Run) × List·Memᴰ run xs
+  first-run [] h = absurd (omega arith)
+  first-run (run ∷ xs) h = (run, List·Memᴰ·head refl)
+
+  by-all : (g : Group) → ((run : Run) → List·Memᴰ run rs → holds n g (run .row) ≡ true) → In g (shown rule n rs)
+  by-all g f = let t = first-run rs some in shown-member rule n rs g ∙ and-both (rule n rs g) (member g (held n rs)) (sound .unanimous g f) (in-held n rs g (t .0, t .1, f (t .0) (t .1)))
+
+  shown-tree : Tree n (shown rule n rs)
+  shown-tree = record {
+    long = λ g m. let t = holder g m in row-tree n (t .0 .row) (ok (t .0) (t .1)) .long g (t .2);
+    full = λ g m. let t = holder g m in row-tree n (t .0 .row) (ok (t .0) (t .1)) .full g (t .2);
+    agree = sound .agree;
+    leaf = λ s h. by-all (single n s) (λ run m. row-tree n (run .row) (ok run m) .leaf s h);
+    top = by-all (whole n) (λ run m. row-tree n (run .row) (ok run m) .top);
+  }
+
+  least : fewestSamples ≤ n
+  least = let t = first-run rs some in ok (t .0) (t .1) .least
+
+  most : n ≤ mostSamples
+  most = let t = first-run rs some in ok (t .0) (t .1) .most
+
+  pub agreed-standard : Standard n (agreed rule n rs)
+  unfolding agreed
+  agreed-standard = tree-standard n (shown rule n rs) shown-tree (shown-strict rule n rs) least most
+
+  pub agreed-inner : inner n (agreed rule n rs) ≡ branching (shown rule n rs)
+  unfolding agreed
+  agreed-inner = planted n (branching (shown rule n rs)) (tree-family n (shown rule n rs) shown-tree (shown-strict rule n rs) least most) most
+
+  -- the agreed row holds exactly the groups that are shown
+  pub agreed-groups : (g : Group) → member g (groups n (agreed rule n rs)) ≡ member g (shown rule n rs)
+  unfolding agreed
+  agreed-groups g = tree-groups n (shown rule n rs) shown-tree (shown-strict rule n rs) least most g
+
+  -- ---- the support row, word by word
+
+  words : supports rule n rs ≡ total rs ∷ (tabulate (nodes (agreed rule n rs)) (λ v. support n rs (groupAt n (agreed rule n rs) v)) 0 ++ zeros (rowWords n - 1 - nodes (agreed rule n rs)))
+  unfolding supports groups
+  words = ap (λ (ws : List ℕ). total rs ∷ (ws ++ zeros (rowWords n - 1 - nodes (agreed rule n rs)))) (map-tabulate (support n rs) (nodes (agreed rule n rs)) (groupAt n (agreed rule n rs)) 0)
+
+  pub supports-length : length (supports rule n rs) ≡ rowWords n
+  supports-length = ap length words ∙ simp (length-append, length-tabulate, length-zeros) (omega (arith, agreed-standard .valid .high))
+
+  -- "word 0 is k"
+  pub supports-first : getD (supports rule n rs) 0 0 ≡ total rs
+  supports-first = ap (λ (ws : List ℕ). getD ws 0 0) words
+
+  -- "word 1+v is the number of runs holding the group of node v"
+  pub supports-node : (v : ℕ) → v < nodes (agreed rule n rs) → getD (supports rule n rs) (suc v) 0 ≡ support n rs (groupAt n (agreed rule n rs) v)
+  supports-node v h = ap (λ (ws : List ℕ). getD ws (suc v) 0) words
+      ∙ List·getD-append (tabulate m f 0) (zeros (rowWords n - 1 - m)) 0 v (rw length-tabulate h) ∙ getD-tabulate m f 0 v 0 h ∙ ap f (zero-add v)
+    where
+      m : ℕ
+      m = nodes (agreed rule n rs)
+
+      f : ℕ → ℕ
+      f u = support n rs (groupAt n (agreed rule n rs) u)
+
+  -- "filler is 0"
+  pub supports-filler : (w : ℕ) → nodes (agreed rule n rs) < w → getD (supports rule n rs) w 0 ≡ 0
+  supports-filler zero h = absurd (omega arith)
+  supports-filler (suc w) h =
+      let e : w ≡ length (tabulate m f 0) + (w - m) = (rw length-tabulate (omega arith)) in
+      ap (λ (ws : List ℕ). getD ws (suc w) 0) words ∙ ap (λ (i : ℕ). getD (tabulate m f 0 ++ zeros (rowWords n - 1 - m)) i 0) e ∙ getD-append-add (tabulate m f 0) (zeros (rowWords n - 1 - m)) (w - m) 0 ∙ getD-zeros (rowWords n - 1 - m) (w - m)
+    where
+      m : ℕ
+      m = nodes (agreed rule n rs)
+
+      f : ℕ → ℕ
+      f u = support n rs (groupAt n (agreed rule n rs) u)
+
+-- ---- the majority rule
+
+pub total-length : (rs : List Run) → total rs ≡ length rs
+unfolding total
+total-length rs = count-all (λ run. true) rs (λ run m. refl)
+
+-- no group is held by more runs than there are
+pub support-most : (n : ℕ) (rs : List Run) (g : Group) → support n rs g ≤ total rs
+unfolding support total
+support-most n rs g = weigh-mono worth (λ run. holds n g (run .row)) (λ run. true) rs (λ run m e. refl)
+
+-- "twice the number of runs holding it is greater than k"
+pub majority-more : (n : ℕ) (rs : List Run) (g : Group) → majority n rs g ≡ true → total rs < 2 * support n rs g
+majority-more n rs g e = ltb-true _ _ e
+
+-- a majority group is held by some run
+pub majority-held : (n : ℕ) (rs : List Run) (g : Group) → majority n rs g ≡ true → Holder n g rs
+unfolding support
+majority-held n rs g e = weigh-found worth (λ run. holds n g (run .row)) rs (omega (arith, majority-more n rs g e))
+
+-- two groups each held by more than half of the runs are held together by one run
+pub majority-together : (n : ℕ) (rs : List Run) (g h : Group) → majority n rs g ≡ true → majority n rs h ≡ true → (run : Run) × List·Memᴰ run rs × (holds n g (run .row) ≡ true) × (holds n h (run .row) ≡ true)
+unfolding support total
+majority-together n rs g h a b = weigh-both worth (λ run. holds n g (run .row)) (λ run. holds n h (run .row)) rs (omega (arith, majority-more n rs g a, majority-more n rs h b))
+
+-- so they agree
+pub majority-agree : (n : ℕ) (rs : List Run) → Runs n rs → (g h : Group) → majority n rs g ≡ true → majority n rs h ≡ true → Agree g h
+majority-agree n rs ok g h a b = let t = majority-together n rs g h a b in row-tree n (t .0 .row) (ok (t .0) (t .1)) .agree g h (t .2) (t .3)
+
+-- a majority group is held by one of the first ⌈k/2⌉ runs
+pub majority-early : (n : ℕ) (rs : List Run) (g : Group) → majority n rs g ≡ true → Holder n g (take (references (length rs)) rs)
+unfolding support
+majority-early n rs g e = count-early (λ run. holds n g (run .row)) rs (references (length rs)) (omega (arith, total-length rs, majority-more n rs g e)) (half (length rs))
+  where
+    half : (k : ℕ) → k ≤ 2 * references k
+    half k = omega arith
+
+module _ (n : ℕ) (rs : List Run) (ok : Runs n rs) (some : 0 < length rs) where
+  pub majority-sound : Sound majority n rs
+  unfolding support total
+  majority-sound = record {
+    agree = λ g h m k. majority-agree n rs ok g h (and-l _ (member g (held n rs)) (sym (shown-member majority n rs g) ∙ m)) (and-l _ (member h (held n rs)) (sym (shown-member majority n rs h) ∙ k));
+    unanimous = λ g f. lt-ltb (total rs) (2 * support n rs g) (omega (arith, total-length rs, weigh-mono worth (λ run. true) (λ run. holds n g (run .row)) rs (λ run m e. f run m)));
+  }
+
+  pub majority-standard : Standard n (agreed majority n rs)
+  majority-standard = agreed-standard majority n rs ok some majority-sound
+
+  -- DEMAND 2, of the definition: of all groups whatever, exactly those held by more than half of the runs are groups of the agreed row
+  pub majority-groups : (g : Group) → member g (groups n (agreed majority n rs)) ≡ ltb (length rs) (2 * support n rs g)
+  majority-groups g = agreed-groups majority n rs ok some majority-sound g ∙ shown-member majority n rs g
+      ∙ true-eq (majority n rs g && member g (held n rs)) (majority n rs g) (and-l _ (member g (held n rs))) (λ e. and-both _ _ e (in-held n rs g (majority-held n rs g e)))
+      ∙ ap (λ (k : ℕ). ltb k (2 * support n rs g)) (total-length rs)
+
+  -- "Each support of a shown node is more than half of k and at most k."
+  pub majority-supports : (v : ℕ) → v < nodes (agreed majority n rs) → (length rs < 2 * support n rs (groupAt n (agreed majority n rs) v)) × (support n rs (groupAt n (agreed majority n rs) v) ≤ length rs)
+  majority-supports v h = let g = groupAt n (agreed majority n rs) v in
+      (ltb-true _ _ (sym (majority-groups g) ∙ groups-in n (agreed majority n rs) v h), omega (arith, total-length rs, support-most n rs g))
