@@ -1,0 +1,382 @@
+"""Holds the rules against every specimen of document 01, and the makers against the rules.
+
+python3 test_rules.py
+"""
+
+from __future__ import annotations
+
+import sys
+import traceback
+from itertools import combinations, product
+from random import Random
+from typing import Callable
+
+sys.dont_write_bytecode = True
+
+import calls  # noqa: E402
+import rules  # noqa: E402
+import shapes  # noqa: E402
+from rules import ROOT, Words  # noqa: E402
+
+RUN_1, RUN_2, RUN_3 = calls.RUNS_OF_5
+WITH_01 = [5, 4, 4, 3, ROOT, 3]
+WITH_02 = [5, 4, 3, 4, ROOT, 3]
+BARE_3 = [4, 3, 3, 3, ROOT, 0]
+ONLY_TREE_OF_2 = [3, 2, 2, ROOT]
+
+
+def verdict(answer: rules.Answer) -> tuple[int, int]:
+    """Number and place of an answer."""
+    return answer.number, answer.place
+
+
+def opened(n: int, length: int) -> Words:
+    """The words of a study just opened over a buffer that held other words."""
+    answer = rules.open_study(n, [9] * length)
+    assert verdict(answer) == (0, 0)
+    return answer.buffers[0]
+
+
+def added(words: Words, identifier: int, row: Words) -> Words:
+    """The words after an add that is accepted."""
+    answer = rules.add(words, identifier, row)
+    assert verdict(answer) == (0, 0) and answer.buffers[1] == row
+    return answer.buffers[0]
+
+
+def withdrawn(words: Words, identifier: int) -> Words:
+    """The words after a withdrawal that is accepted."""
+    answer = rules.withdraw(words, identifier)
+    assert verdict(answer) == (0, 0)
+    return answer.buffers[0]
+
+
+def study_of(n: int, rows: list[Words]) -> Words:
+    """A study of 300 words that holds these rows as runs 1, 2, and so on."""
+    words = opened(n, 300)
+    for i, row in enumerate(rows):
+        words = added(words, 1 + i, row)
+    return words
+
+
+def reported(words: Words, n: int) -> list[Words]:
+    """The agreed row and the support row of a report that is accepted."""
+    answer = rules.report(words, [7] * 2 * n, [8] * 2 * n)
+    assert verdict(answer) == (0, 0) and answer.buffers[0] == words
+    return answer.buffers[1:]
+
+
+def refusal_leaves_all(answer: rules.Answer, number: int, place: int, *buffers: Words) -> None:
+    """Asserts a refusal after which the buffers are as they were."""
+    assert verdict(answer) == (number, place), verdict(answer)
+    assert answer.counts is None and answer.buffers == list(buffers)
+
+
+# Specimens: rows
+
+
+def test_only_tree_of_two() -> None:
+    """ "n=2: 3 2 2 65535 is valid. It is the only tree." """
+    words = [0, 1, 2, 3, 4, ROOT]
+    valid = [list(row) for row in product(words, repeat=4) if rules.judge(2, list(row)).number == 0]
+    assert valid == [ONLY_TREE_OF_2]
+
+
+def test_same_tree_renumbers() -> None:
+    """ "5 4 4 3 65535 3 is valid; 5 3 3 4 4 65535 is the same tree and renumbers to it" """
+    assert verdict(rules.judge(3, WITH_01)) == (0, 0)
+    other = [5, 3, 3, 4, 4, ROOT]
+    assert rules.groups_of(3, other) == rules.groups_of(3, WITH_01)
+    assert rules.renumber(3, other, [1] * 6) == (0, 0, None, [other, WITH_01])
+    assert rules.renumber(3, WITH_01, [1] * 6) == (0, 0, None, [WITH_01, WITH_01])
+
+
+def test_specimens_of_three() -> None:
+    """The specimen rows of n=3 that judging answers."""
+    refusal_leaves_all(rules.judge(3, [4, 3, 3, 3, ROOT, 7]), 8, 5, [4, 3, 3, 3, ROOT, 7])
+    assert verdict(rules.judge(3, BARE_3)) == (0, 0)
+    assert verdict(rules.judge(3, [5, 3, 3, 3, ROOT, 4])) == (9, 4)
+    assert verdict(rules.judge(3, [5, 4, 3, 3, ROOT, 3])) == (10, 4)
+    assert verdict(rules.judge(3, [5, 2, 3, 3, ROOT, 3])) == (6, 0)
+    assert verdict(rules.judge(3, [5, 4, 4, 3, ROOT, ROOT])) == (7, 0)
+
+
+def test_nodes_of_three_or_six() -> None:
+    """ "m of 3 or 6 gives 5", whatever the other words."""
+    for m, *rest in product([3, 6], *[[0, 3, 4, ROOT]] * 5):
+        assert verdict(rules.judge(3, [m, *rest])) == (5, 0)
+
+
+def test_sizes() -> None:
+    """ "n of 1 and 513 give 1; 2 and 512 are taken." """
+    for n in (0, 1, 513, 65535):
+        refusal_leaves_all(rules.judge(n, [3] * 4), 1, 0, [3] * 4)
+        refusal_leaves_all(rules.judge(n, []), 1, 0, [])
+        refusal_leaves_all(rules.renumber(n, [3], [4]), 1, 0, [3], [4])
+        refusal_leaves_all(rules.compare(n, [3], [4]), 1, 0, [3], [4])
+        refusal_leaves_all(rules.open_study(n, [5] * 3000), 1, 0, [5] * 3000)
+    for n in (2, 512):
+        row = shapes.standard_row(n, shapes.trivial_groups(n))
+        assert verdict(rules.judge(n, row)) == (0, 0)
+        assert reported(added(opened(n, 3000), 1, row), n)[0] == row
+
+
+def test_comparing() -> None:
+    """ "Comparing runs 1 and 2: 7 in both, 1, 1." """
+    assert rules.compare(5, RUN_1, RUN_2) == (0, 0, (7, 1, 1), [RUN_1, RUN_2])
+    assert rules.compare(5, RUN_3, RUN_1).counts == (7, 2, 1)
+    assert rules.compare(5, RUN_2, RUN_2).counts == (8, 0, 0)
+
+
+def test_places_of_second_row() -> None:
+    """Every place of the second row has 2n added; the first row goes before it."""
+    for number, place, row in ROWS_REFUSED:
+        refusal_leaves_all(rules.compare(3, row, BARE_3), number, place, row, BARE_3)
+        refusal_leaves_all(rules.compare(3, BARE_3, row), number, place + 6, BARE_3, row)
+        refusal_leaves_all(rules.compare(3, row, [0] * 6), number, place, row, [0] * 6)
+        refusal_leaves_all(rules.renumber(3, row, [1] * 6), number, place, row, [1] * 6)
+
+
+ROWS_REFUSED = [
+    (5, 0, [3, 3, 3, 3, ROOT, 0]),
+    (5, 0, [6, 3, 3, 3, ROOT, 0]),
+    (6, 0, [5, 2, 3, 3, ROOT, 3]),
+    (6, 2, [5, 4, 4, ROOT, ROOT, 5]),
+    (6, 4, [5, 4, 4, 3, ROOT, 5]),
+    (7, 0, [5, 4, 4, 3, ROOT, ROOT]),
+    (7, 0, [5, 4, 4, 3, 4, 3]),
+    (7, 0, [4, 3, 3, 3, 3, 1]),
+    (8, 5, [4, 3, 3, 3, ROOT, 7]),
+    (9, 0, [5, 4, 3, 3, ROOT, 4]),
+    (9, 4, [5, 3, 3, 3, ROOT, 4]),
+    (10, 3, [5, 4, 4, 4, ROOT, 3]),
+    (10, 4, [5, 4, 3, 3, ROOT, 3]),
+]
+
+
+def test_lengths() -> None:
+    """3 for every row and output that is not 2n words."""
+    for wrong in ([], [5], [0] * 5, [0] * 7):
+        refusal_leaves_all(rules.judge(3, wrong), 3, 0, wrong)
+        refusal_leaves_all(rules.renumber(3, WITH_01, wrong), 3, 0, WITH_01, wrong)
+        refusal_leaves_all(rules.renumber(3, wrong, [0] * 6), 3, 0, wrong, [0] * 6)
+        refusal_leaves_all(rules.compare(3, [9] * 6, wrong), 3, 0, [9] * 6, wrong)
+        study = opened(3, 20)
+        refusal_leaves_all(rules.report(study, [0] * 6, wrong), 3, 0, study, [0] * 6, wrong)
+        refusal_leaves_all(rules.report(study, wrong, [0] * 6), 3, 0, study, wrong, [0] * 6)
+        refusal_leaves_all(rules.add(study, 0, wrong), 3, 0, study, wrong)
+
+
+# Specimens: studies
+
+
+def test_three_runs() -> None:
+    """The three runs of the listing and their report."""
+    agreed, support = reported(study_of(5, [RUN_1, RUN_2, RUN_3]), 5)
+    assert agreed == [9, 7, 7, 6, 8, 8, ROOT, 5, 6, 5]
+    assert support == [3, 3, 3, 3, 3, 3, 3, 2, 2, 2]
+
+
+def test_groups_of_three_runs() -> None:
+    """The groups named beside the three runs."""
+    for row, named in ((RUN_1, "012 01"), (RUN_2, "012 34"), (RUN_3, "0134 01 34")):
+        groups = shapes.proper_groups(rules.groups_of(5, row))
+        assert groups == [frozenset(map(int, samples)) for samples in named.split()]
+
+
+def test_half_is_too_few() -> None:
+    """ "n=3, two runs holding {0,1} and {0,2}": the bare tree."""
+    assert reported(study_of(3, [WITH_01, WITH_02]), 3) == [BARE_3, [2, 2, 2, 2, 2, 0]]
+
+
+def test_halves_and_three_of_four() -> None:
+    """ "A group in 2 of 4 runs stays out; in 3 of 4 it is in." """
+    two_of_four = study_of(3, [WITH_01, WITH_02, WITH_01, WITH_02])
+    assert reported(two_of_four, 3) == [BARE_3, [4, 4, 4, 4, 4, 0]]
+    three_of_four = study_of(3, [WITH_01, WITH_02, WITH_01, WITH_01])
+    assert reported(three_of_four, 3) == [WITH_01, [4, 4, 4, 4, 4, 3]]
+
+
+def test_one_run_is_reported() -> None:
+    """ "With k = 1 the run itself is reported." """
+    for row in (RUN_1, RUN_2, RUN_3):
+        agreed, support = reported(study_of(5, [row]), 5)
+        assert agreed == rules.renumber(5, row, [0] * 10).buffers[1]
+        assert support == [1] * (1 + row[0]) + [0] * (9 - row[0])
+
+
+def test_largest_identifier() -> None:
+    """ "Identifier 65,535 is taken." """
+    words = added(opened(2, 20), 65535, ONLY_TREE_OF_2)
+    assert words == [65, 82, 66, 1, 2, 1, 0, 0, 65535, 3, 2, 2, ROOT] + [0] * 7
+
+
+def test_run_1025() -> None:
+    """ "The 1,025th run gives 12; after a withdrawal it is taken." """
+    tree = rules.groups_of(2, ONLY_TREE_OF_2)
+    runs = {identifier: tree for identifier in range(1, 1024)}
+    for length in (8 + 1024 * 5, 8 + 1030 * 5):
+        words = added(rules.write_study(length, rules.Study(2, runs)), 1024, ONLY_TREE_OF_2)
+        full = rules.add(words, 1025, ONLY_TREE_OF_2)
+        refusal_leaves_all(full, 12, 0, words, ONLY_TREE_OF_2)
+        words = added(withdrawn(words, 7), 1025, ONLY_TREE_OF_2)
+        assert words[5] == 1024 and words[8:38:5] == [1, 2, 3, 4, 5, 6] and words[38] == 8
+
+
+def test_last_run_withdrawn() -> None:
+    """ "Withdrawing the last run and reporting gives 14." """
+    words = withdrawn(study_of(3, [WITH_01]), 1)
+    assert words == opened(3, 300)
+    refusal_leaves_all(rules.report(words, [1] * 6, [2] * 6), 14, 0, words, [1] * 6, [2] * 6)
+
+
+def test_added_again() -> None:
+    """ "Adding an identifier again after its withdrawal, with another tree, is allowed." """
+    words = added(withdrawn(study_of(3, [WITH_01]), 1), 1, WITH_02)
+    assert words == study_of(3, [WITH_02])
+    assert reported(words, 3)[0] == WITH_02
+
+
+# Studies, beyond the specimens
+
+
+def test_opening() -> None:
+    """ "Opening needs capacity 1 and leaves k = 0." """
+    assert opened(3, 15) == [65, 82, 66, 1, 3, 0, 0, 0] + [0] * 7
+    for length in (0, 7, 8, 14):
+        refusal_leaves_all(rules.open_study(3, [4] * length), 3, 0, [4] * length)
+
+
+def test_capacity() -> None:
+    """ "Capacity is the smaller of 1,024 and (length - 8) divided by (2n+1), rounded down" """
+    for length, runs in ((0, 0), (7, 0), (8, 0), (12, 0), (13, 1), (17, 1), (18, 2), (5127, 1023)):
+        assert rules.capacity(length, 2) == runs
+    assert rules.capacity(32768, 2) == 1024 and rules.capacity(32768, 512) == 31
+
+
+def test_refusals_of_studies() -> None:
+    """4, 11, 12 and 13, and what goes before them."""
+    words = added(opened(3, 22), 6, WITH_01)
+    bad = [5, 4, 3, 3, ROOT, 3]
+    refusal_leaves_all(rules.add(words, 0, bad), 4, 0, words, bad)
+    refusal_leaves_all(rules.add(words, 6, bad), 10, 4, words, bad)
+    refusal_leaves_all(rules.add(words, 6, WITH_02), 11, 0, words, WITH_02)
+    words = added(words, 5, WITH_02)
+    assert words == [65, 82, 66, 1, 3, 2, 0, 0, 5, *WITH_02, 6, *WITH_01]
+    refusal_leaves_all(rules.add(words, 6, WITH_02), 11, 0, words, WITH_02)
+    refusal_leaves_all(rules.add(words, 7, WITH_02), 12, 0, words, WITH_02)
+    refusal_leaves_all(rules.withdraw(words, 0), 4, 0, words)
+    refusal_leaves_all(rules.withdraw(words, 7), 13, 0, words)
+
+
+def test_not_well_formed() -> None:
+    """2 for a study with any single word changed to one that it may not be."""
+    words = added(added(opened(3, 30), 5, WITH_02), 6, WITH_01)
+    changes = [(0, 66), (1, 0), (2, 65), (3, 2), (4, 1), (4, 513), (4, 4), (5, 1), (5, 3), (5, 4)]
+    changes += [(6, 1), (7, 1), (8, 0), (8, 6), (8, 7), (9, 4), (10, 3), (22, 1), (29, 1)]
+    for i, word in changes:
+        damaged = words[:i] + [word] + words[i + 1 :]
+        refusal_leaves_all(rules.withdraw(damaged, 0), 2, 0, damaged)
+        refusal_leaves_all(rules.add(damaged, 0, []), 2, 0, damaged, [])
+        refusal_leaves_all(rules.report(damaged, [], []), 2, 0, damaged, [], [])
+    unordered = [65, 82, 66, 1, 3, 1, 0, 0, 5, 5, 3, 3, 4, 4, ROOT]
+    assert rules.judge(3, unordered[9:]).number == 0
+    refusal_leaves_all(rules.withdraw(unordered, 5), 2, 0, unordered)
+    for length in (0, 7, 8, 14):
+        assert rules.read_study(opened(3, 15)[:length]) is None
+
+
+# Trees and their makers
+
+
+def test_number_of_trees() -> None:
+    """The rows that judging accepts make 1, 4 and 26 trees of 2, 3 and 4 samples."""
+    for n, trees in ((2, 1), (3, 4), (4, 26)):
+        rows = [row for m in range(n + 1, 2 * n) for row in rows_in_range(n, m)]
+        valid = [row for row in rows if rules.judge(n, row).number == 0]
+        assert len({rules.groups_of(n, row) for row in valid}) == trees
+        assert len({tuple(rules.renumber(n, row, row).buffers[1]) for row in valid}) == trees
+
+
+def rows_in_range(n: int, m: int) -> list[Words]:
+    """Every row of m nodes that the checks 5, 6 and 8 pass."""
+    inner = list(range(n, m))
+    parents = product(*[inner] * n, *[inner + [ROOT]] * (m - n))
+    return [rules.filled(n, [m, *chosen]) for chosen in parents]
+
+
+def test_makers_make_trees() -> None:
+    """Trees of every shape, and their neighbours, are trees in every numbering."""
+    rng = Random(1)
+    for n in (2, 3, 4, 7, 12):
+        for shape in shapes.SHAPES * 5:
+            for tree in (shape(rng, n), shapes.one_move(rng, n, shape(rng, n))):
+                for row in (shapes.standard_row(n, tree), shapes.shuffled_row(rng, n, tree)):
+                    assert rules.judge(n, row).number == 0
+                    assert rules.groups_of(n, row) == tree
+                assert all(rules.agree(*pair) for pair in combinations(tree, 2))
+
+
+def test_moves_move() -> None:
+    """A tree one move away is another tree, where there is one."""
+    rng = Random(2)
+    for n in (3, 5, 9):
+        for tree in (shapes.any_tree(rng, n) for _ in range(50)):
+            assert shapes.one_move(rng, n, tree) != tree
+
+
+def test_report_is_majority() -> None:
+    """Every set of samples is shown exactly if more than half of the runs hold it."""
+    rng = Random(3)
+    for k in range(1, 9):
+        for trees in (shapes.runs_near(rng, 5, k, 2), shapes.runs_halved(rng, 5, k)):
+            words = study_of(5, [shapes.shuffled_row(rng, 5, tree) for tree in trees])
+            agreed, support = reported(words, 5)
+            shown = rules.groups_of(5, agreed)
+            for samples in sets_of_samples(5):
+                assert (samples in shown) == (2 * sum(samples in tree for tree in trees) > k)
+            assert support[0] == k and all(2 * held > k for held in support[1 : 1 + agreed[0]])
+
+
+def sets_of_samples(n: int) -> list[frozenset[int]]:
+    """Every set of samples that is not empty."""
+    return [frozenset(some) for size in range(1, n + 1) for some in combinations(range(n), size)]
+
+
+def test_requests_are_read_back() -> None:
+    """Requests turned into bytes and back are the same calls."""
+    stored = list(calls.stored_calls())
+    data = b"".join(calls.to_bytes(calls.request_words(call)) for call in stored)
+    assert list(calls.read_requests(calls.from_bytes(data))) == stored
+
+
+def test_bytes_of_a_request() -> None:
+    """A request and its reply, byte for byte."""
+    call = calls.judge(3, [4, 3, 3, 3, ROOT, 7])
+    row = bytes([4, 0, 3, 0, 3, 0, 3, 0, 255, 255, 7, 0])
+    head = bytes([5, 0, 3, 0, 0, 0, 6, 0, 0, 0, 0, 0])
+    assert calls.to_bytes(calls.request_words(call)) == head + row
+    head = bytes([8, 0, 5, 0, 0, 0, 0, 0, 0, 0, 0, 0])
+    assert calls.to_bytes(calls.reply_words(calls.answer(call))) == head + row
+
+
+def passes(test: Callable[[], None]) -> bool:
+    """Whether a test passes; what went wrong is printed."""
+    try:
+        test()
+    except Exception:
+        print(f"{test.__name__} failed\n{traceback.format_exc()}")
+        return False
+    return True
+
+
+def main() -> int:
+    """Runs every test."""
+    tests = [test for name, test in globals().items() if name.startswith("test_")]
+    passed = sum(map(passes, tests))
+    print(f"{passed} passed, {len(tests) - passed} failed")
+    return 0 if passed == len(tests) else 1
+
+
+if __name__ == "__main__":
+    sys.exit(main())
