@@ -10,6 +10,7 @@ pub mod BoolLaws
 pub mod ListLaws
 pub mod ChainLaws
 pub mod WayLaws
+pub mod ScanLaws
 pub mod CheckLaws
 pub mod ValidLaws
 pub mod GroupLaws

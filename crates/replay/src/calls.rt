@@ -1,0 +1,101 @@
+// The calls by number: what a request asks for, and what its reply says.
+//
+//     5 judge      x = n           a the row
+//
+// A call that is added has a line above, a number below, an arm in `called` and a function of its own.
+use crate::words::wide;
+use judge::Answer;
+ghost use mathlib.Core.Path.{_≡_};
+ghost use Rattle.replay.specs.Calls.{headOf, plainReply, replyTo, replyWords};
+
+const OP_JUDGE: u16 = 5;
+
+// The head of a request: the call, its numbers x and y, and how many words its buffers have.
+pub struct Head {
+    pub op: u16,
+    pub x: u16,
+    pub y: u16,
+    pub la: u16,
+    pub lb: u16,
+    pub lc: u16,
+}
+
+// The head of a reply: a refusal's number and place, both 0 for an accepted call, and three counts.
+pub struct Reply {
+    pub number: usize,
+    pub place: usize,
+    pub c1: usize,
+    pub c2: usize,
+    pub c3: usize,
+}
+
+// What comes of a request.
+pub enum Outcome {
+    Told(Reply),
+    Unknown,
+}
+
+// What comes of the call that the head asks for. It leaves in the buffers what the call leaves.
+pub fn called(head: Head, a: &mut [u16], b: &mut [u16], c: &mut [u16]) -> Outcome {
+    let op = head.op;
+    match op {
+        OP_JUDGE => Outcome::Told(judged(head, a)),
+        _ => Outcome::Unknown,
+    }
+}
+
+// The reply to judging the row a.
+fn judged(head: Head, a: &[u16]) -> Reply {
+    reply_to(arb::judge(wide(head.x), a))
+}
+
+// The reply that an answer makes.
+fn reply_to(answer: Answer) -> Reply
+    ensures { λ r. ⌜ r ≡ replyTo answer ⌝ }
+{
+    match answer {
+        Answer::Accepted => plain_reply(0, 0),
+        Answer::Refused(number, place) => plain_reply(number, place),
+    }
+}
+
+// The reply with a number and a place that counts nothing.
+fn plain_reply(number: usize, place: usize) -> Reply
+    ensures { λ r. ⌜ r ≡ plainReply number place ⌝ }
+{
+    Reply {
+        number,
+        place,
+        c1: 0,
+        c2: 0,
+        c3: 0,
+    }
+}
+
+// What the six words of a request's head say.
+pub fn head_of(six: &[u16; 6]) -> Head
+    ensures { λ r. ⌜ r ≡ headOf (now (six .entry)) ⌝ }
+{
+    Head {
+        op: six[0],
+        x: six[1],
+        y: six[2],
+        la: six[3],
+        lb: six[4],
+        lc: six[5],
+    }
+}
+
+// The six words of a reply's head.
+pub fn reply_words(reply: Reply) -> [u16; 6]
+    ensures { λ r. ⌜ r ≡ replyWords reply ⌝ }
+{
+    [
+        (reply.number % 65536) as u16,
+        (reply.place % 65536) as u16,
+        (reply.place / 65536 % 65536) as u16,
+        (reply.c1 % 65536) as u16,
+        (reply.c2 % 65536) as u16,
+        (reply.c3 % 65536) as u16,
+    ]
+}
