@@ -64,7 +64,8 @@ unfolding _⊳_
 chain-passed [] e = tt
 chain-passed (c ∷ cs) e = go (c .fault) refl e (λ q. chain-passed cs q)
   where
-    go : (f : Place) → c .fault ≡ f → orElse (c .number) f (cs ⊳ accepted) ≡ accepted → (cs ⊳ accepted ≡ accepted → Passed cs) → (c .fault ≡ nowhere) × Passed cs
+    go : (f : Place) → c .fault ≡ f → orElse (c .number) f (cs ⊳ accepted) ≡ accepted → (cs ⊳ accepted ≡ accepted → Passed cs)
+        → (c .fault ≡ nowhere) × Passed cs
     go nowhere p q r = (p, r q)
     go (at i) p q r = let z : _≡_ {A = ℕ} 0 1 = cc in absurd (omega arith)
 
@@ -140,9 +141,11 @@ given-exactly (c ∷ cs) k p e (later a g) =
     first-or-later w d (List·Memᴰ·head q) l = ap (λ (x : Check). x .fault) q ∙ a
     first-or-later w d (List·Memᴰ·tail m) l = w .earlier d m l
 
-exactly-given : (cs : List Check) (k p : ℕ) → isRising (numbers cs) ≡ true → (c : Check) → List·Memᴰ c cs → c .number ≡ k → c .fault ≡ at p → ((d : Check) → List·Memᴰ d cs → d .number < k → d .fault ≡ nowhere) → Given k p cs
+exactly-given : (cs : List Check) (k p : ℕ) → isRising (numbers cs) ≡ true → (c : Check) → List·Memᴰ c cs → c .number ≡ k → c .fault ≡ at p
+    → ((d : Check) → List·Memᴰ d cs → d .number < k → d .fault ≡ nowhere) → Given k p cs
 exactly-given (b ∷ cs) k p e c (List·Memᴰ·head q) a f g = here (ap (λ (x : Check). x .number) (sym q) ∙ a) (ap (λ (x : Check). x .fault) (sym q) ∙ f)
-exactly-given (b ∷ cs) k p e c (List·Memᴰ·tail m) a f g = later (g b (List·Memᴰ·head refl) (omega (arith, rising-less b cs e c m))) (exactly-given cs k p (rising-tail b cs e) c m a f (λ d i. g d (List·Memᴰ·tail i)))
+exactly-given (b ∷ cs) k p e c (List·Memᴰ·tail m) a f g = later (g b (List·Memᴰ·head refl) (omega (arith, rising-less b cs e c m)))
+    (exactly-given cs k p (rising-tail b cs e) c m a f (λ d i. g d (List·Memᴰ·tail i)))
 
 -- THE CHAIN LAW: a number is given exactly when its check applies and every earlier one passes
 pub refused-exactly : (cs : List Check) (v : Verdict) (k p : ℕ) → isRising (numbers cs) ≡ true → (v ≡ refused k p → ⊥) → (cs ⊳ v ≡ refused k p) ↔ Exactly k p cs

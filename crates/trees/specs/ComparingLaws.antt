@@ -27,7 +27,8 @@ unfolding weigh
 count-not t [] = refl
 count-not t (g ∷ gs) = go (t g) (count-not t gs)
   where
-    go : (b : Bool) → count t gs + count (λ h. not (t h)) gs ≡ length gs → (cond b 1 0 + count t gs) + (cond (not b) 1 0 + count (λ h. not (t h)) gs) ≡ length (g ∷ gs)
+    go : (b : Bool) → count t gs + count (λ h. not (t h)) gs ≡ length gs
+        → (cond b 1 0 + count t gs) + (cond (not b) 1 0 + count (λ h. not (t h)) gs) ≡ length (g ∷ gs)
     go true h = omega arith
     go false h = omega arith
 
@@ -37,8 +38,11 @@ set-strict n r = strict-ordered (groups n r)
 
 -- "groups in both rows" is one number
 pub shared-comm : (n : ℕ) (r q : List ℕ) → shared n r q ≡ shared n q r
-shared-comm n r q = count-filter _ (groupSet n r) ∙ ap length (strict-unique (filter (λ g. member g (groupSet n q)) (groupSet n r)) (filter (λ g. member g (groupSet n r)) (groupSet n q))
-    (strict-filter _ (groupSet n r) (set-strict n r)) (strict-filter _ (groupSet n q) (set-strict n q)) (λ x. member-filter x _ (groupSet n r) ∙ and-comm (member x (groupSet n q)) (member x (groupSet n r)) ∙ sym (member-filter x _ (groupSet n q)))) ∙ sym (count-filter _ (groupSet n q))
+shared-comm n r q = count-filter _ (groupSet n r)
+    ∙ ap length (strict-unique (filter (λ g. member g (groupSet n q)) (groupSet n r)) (filter (λ g. member g (groupSet n r)) (groupSet n q))
+    (strict-filter _ (groupSet n r) (set-strict n r)) (strict-filter _ (groupSet n q) (set-strict n q))
+    (λ x. member-filter x _ (groupSet n r) ∙ and-comm (member x (groupSet n q)) (member x (groupSet n r)) ∙ sym
+    (member-filter x _ (groupSet n q)))) ∙ sym (count-filter _ (groupSet n q))
 
 -- a row's groups are those that the other has and those that it has not
 pub shared-alone : (n : ℕ) (r q : List ℕ) → shared n r q + alone n r q ≡ length (groupSet n r)

@@ -44,9 +44,11 @@ data Child (n : ℕ) (gs : List Group) (f : ℕ → ℕ) (i s : ℕ) : Type 0 wh
   node : (j : ℕ) → i < j → j < length gs → f (n + j) ≡ n + i → has (nth gs j) s ≡ true → Child n gs f i s
 
 -- the last group with s is i, where i has it and none after i has
-pub last-is : (n o : ℕ) (gs : List Group) (c i s : ℕ) → i < c → c ≤ length gs → has (nth gs i) s ≡ true → ((l : ℕ) → i < l → l < c → has (nth gs l) s ≡ false) → lastWith s (take c gs) n o ≡ n + i
+pub last-is : (n o : ℕ) (gs : List Group) (c i s : ℕ) → i < c → c ≤ length gs → has (nth gs i) s ≡ true
+    → ((l : ℕ) → i < l → l < c → has (nth gs l) s ≡ false) → lastWith s (take c gs) n o ≡ n + i
 last-is n o gs zero i s h k e f = absurd (omega arith)
-last-is n o gs (suc c) i s h k e f = rw (last-suc s gs c n o k) (go (eq-or-lt-of-le (le-of-suc-le-suc h)) (λ q. last-is n o gs c i s q (omega arith) e (λ l a b. f l a (omega arith))))
+last-is n o gs (suc c) i s h k e f = rw (last-suc s gs c n o k)
+    (go (eq-or-lt-of-le (le-of-suc-le-suc h)) (λ q. last-is n o gs c i s q (omega arith) e (λ l a b. f l a (omega arith))))
   where
     go : (i ≡ c) ⊎ (i < c) → (i < c → lastWith s (take c gs) n o ≡ n + i) → cond (has (nth gs c) s) (n + c) (lastWith s (take c gs) n o) ≡ n + i
     go (inl q) r = rw (← q, e)
@@ -63,7 +65,8 @@ module _ (n : ℕ) (gs : List Group) (ok : Family n gs) where
   nested = record {
     full = λ i h. lowest-has (nth gs i) (omega (arith, ok .big (nth gs i) (in-at gs i h)));
     all = λ i j s h k e. let a = in-at gs i k in let b = in-at gs j (omega arith) in
-        all-or-none (nth gs j) (nth gs i) (ok .long _ b ∙ sym (ok .long _ a)) (strict-at gs (ok .strict) i j h k) (ok .agree _ _ b a) s _ e (lowest-has (nth gs i) (omega (arith, ok .big _ a)));
+        all-or-none (nth gs j) (nth gs i) (ok .long _ b ∙ sym (ok .long _ a)) (strict-at gs (ok .strict) i j h k) (ok .agree _ _ b a) s _ e
+        (lowest-has (nth gs i) (omega (arith, ok .big _ a)));
   }
 
   pub some : 0 < length gs
@@ -82,15 +85,19 @@ module _ (n : ℕ) (gs : List Group) (ok : Family n gs) where
   last-range o zero s h k z = absurd (omega arith)
   last-range o (suc i) s h k z = rw (last-suc s gs i n o k) (go (has (nth gs i) s) refl i refl (λ q. last-range o i s q (omega arith) z))
     where
-      go : (x : Bool) → has (nth gs i) s ≡ x → (j : ℕ) → i ≡ j → (0 < i → (n ≤ lastWith s (take i gs) n o) × (lastWith s (take i gs) n o < n + i)) → (n ≤ cond x (n + i) (lastWith s (take i gs) n o)) × (cond x (n + i) (lastWith s (take i gs) n o) < n + suc i)
+      go : (x : Bool) → has (nth gs i) s ≡ x → (j : ℕ) → i ≡ j → (0 < i → (n ≤ lastWith s (take i gs) n o) × (lastWith s (take i gs) n o < n + i))
+          → (n ≤ cond x (n + i) (lastWith s (take i gs) n o)) × (cond x (n + i) (lastWith s (take i gs) n o) < n + suc i)
       go true e j q r = (omega arith, omega arith)
-      go false e zero q r = absurd (true≢false (sym (has-whole n s z) ∙ ap (λ (g : Group). has g s) (sym first-whole) ∙ ap (λ (j : ℕ). has (nth gs j) s) (sym q) ∙ e))
+      go false e zero q r = absurd (true≢false
+          (sym (has-whole n s z) ∙ ap (λ (g : Group). has g s) (sym first-whole) ∙ ap (λ (j : ℕ). has (nth gs j) s) (sym q) ∙ e))
       go false e (suc j) q r = let t = r (omega arith) in (omega arith, omega arith)
 
 module _ (n : ℕ) (gs : List Group) (ok : Family n gs) (o : ℕ) (f : ℕ → ℕ) (is : Parents n gs o f) where
   child : (d c i s : ℕ) → c + d ≡ length gs → i < c → has (nth gs i) s ≡ true → ((l : ℕ) → i < l → l < c → has (nth gs l) s ≡ false) → s < n → Child n gs f i s
-  child zero c i s p h e w z = leaf (is .leaf s z ∙ (rw take-length at (last-is n o gs (length gs) i s (omega arith) (omega arith) e (λ l a b. w l a (omega arith)))))
-  child (suc d) c i s p h e w z = go (has (nth gs c) s) refl (λ q. child d (suc c) i s (omega arith) (omega arith) e (λ l a b. more q l a (eq-or-lt-of-le (le-of-suc-le-suc b))) z)
+  child zero c i s p h e w z = leaf (is .leaf s z ∙ (rw take-length at
+      (last-is n o gs (length gs) i s (omega arith) (omega arith) e (λ l a b. w l a (omega arith)))))
+  child (suc d) c i s p h e w z = go (has (nth gs c) s) refl
+      (λ q. child d (suc c) i s (omega arith) (omega arith) e (λ l a b. more q l a (eq-or-lt-of-le (le-of-suc-le-suc b))) z)
     where
       more : has (nth gs c) s ≡ false → (l : ℕ) → i < l → (l ≡ c) ⊎ (l < c) → has (nth gs l) s ≡ false
       more q l a (inl b) = rw b q
@@ -100,14 +107,17 @@ module _ (n : ℕ) (gs : List Group) (ok : Family n gs) (o : ℕ) (f : ℕ → �
       alike q l b = nested n gs ok .all c l s b (omega arith) q
 
       go : (x : Bool) → has (nth gs c) s ≡ x → (has (nth gs c) s ≡ false → Child n gs f i s) → Child n gs f i s
-      go true q r = node c h (omega arith) (is .inner c (omega arith) ∙ last-is n o gs c i (lowest (nth gs c)) h (omega arith) (sym (alike q i h) ∙ e) (λ l a b. sym (alike q l b) ∙ w l a b)) q
+      go true q r = node c h (omega arith) (is .inner c (omega arith) ∙ last-is n o gs c i (lowest (nth gs c)) h (omega arith)
+          (sym (alike q i h) ∙ e) (λ l a b. sym (alike q l b) ∙ w l a b)) q
       go false q r = r q
 
   kid : (i s : ℕ) → i < length gs → has (nth gs i) s ≡ true → Child n gs f i s
   kid i s h e = child (length gs - suc i) (suc i) i s (omega arith) (omega arith) e (λ l a b. absurd (omega arith)) (sample n gs ok i s h e)
 
-  pair : (i u w : ℕ) → u < n + length gs → w < n + length gs → (u ≡ w → ⊥) → f u ≡ n + i → f w ≡ n + i → 2 ≤ count (λ u. eqb (f u) (n + i)) (range 0 (n + length gs))
-  pair i u w a b d p q = count-two (λ u. eqb (f u) (n + i)) (range 0 (n + length gs)) u w (range-in 0 _ u zero-le a) (range-in 0 _ w zero-le b) d (eq-eqb _ _ p) (eq-eqb _ _ q)
+  pair : (i u w : ℕ) → u < n + length gs → w < n + length gs → (u ≡ w → ⊥) → f u ≡ n + i → f w ≡ n + i
+      → 2 ≤ count (λ u. eqb (f u) (n + i)) (range 0 (n + length gs))
+  pair i u w a b d p q = count-two (λ u. eqb (f u) (n + i)) (range 0 (n + length gs)) u w (range-in 0 _ u zero-le a) (range-in 0 _ w zero-le b) d
+      (eq-eqb _ _ p) (eq-eqb _ _ q)
 
   pub two-children : (i : ℕ) → i < length gs → 2 ≤ count (λ u. eqb (f u) (n + i)) (range 0 (n + length gs))
   two-children i h = first (lowest (nth gs i)) (nested n gs ok .full i h) (kid i _ h (nested n gs ok .full i h))
@@ -116,15 +126,19 @@ module _ (n : ℕ) (gs : List Group) (ok : Family n gs) (o : ℕ) (f : ℕ → �
       second-leaf s t a b d p (leaf q) = pair i s t (omega arith) (omega arith) (λ e. d (sym e)) p q
       second-leaf s t a b d p (node j l k q e) = pair i s (n + j) (omega arith) (omega arith) (λ e. omega arith) p q
 
-      second-node : (j t : ℕ) → j < length gs → t < n → has (nth gs j) t ≡ false → f (n + j) ≡ n + i → Child n gs f i t → 2 ≤ count (λ u. eqb (f u) (n + i)) (range 0 (n + length gs))
+      second-node : (j t : ℕ) → j < length gs → t < n → has (nth gs j) t ≡ false → f (n + j) ≡ n + i → Child n gs f i t
+          → 2 ≤ count (λ u. eqb (f u) (n + i)) (range 0 (n + length gs))
       second-node j t a b d p (leaf q) = pair i (n + j) t (omega arith) (omega arith) (λ e. omega arith) p q
-      second-node j t a b d p (node c l k q e) = pair i (n + j) (n + c) (omega arith) (omega arith) (λ x. true≢false (sym e ∙ ap (λ (y : ℕ). has (nth gs y) t) (omega arith) ∙ d)) p q
+      second-node j t a b d p (node c l k q e) = pair i (n + j) (n + c) (omega arith) (omega arith)
+          (λ x. true≢false (sym e ∙ ap (λ (y : ℕ). has (nth gs y) t) (omega arith) ∙ d)) p q
 
       first : (s : ℕ) → has (nth gs i) s ≡ true → Child n gs f i s → 2 ≤ count (λ u. eqb (f u) (n + i)) (range 0 (n + length gs))
-      first s e (leaf p) = let r = another (nth gs i) s (ok .big _ (in-at gs i h)) in second-leaf s (r .0) (sample n gs ok i s h e) (sample n gs ok i (r .0) h (r .1)) (r .2) p (kid i (r .0) h (r .1))
+      first s e (leaf p) = let r = another (nth gs i) s (ok .big _ (in-at gs i h)) in
+          second-leaf s (r .0) (sample n gs ok i s h e) (sample n gs ok i (r .0) h (r .1)) (r .2) p (kid i (r .0) h (r .1))
       first s e (node j l k p q) =
           let a = in-at gs i h in let b = in-at gs j k in
-          let r = extra (nth gs i) (nth gs j) (sharing-larger (nth gs i) (nth gs j) (ok .long _ a ∙ sym (ok .long _ b)) (strict-at gs (ok .strict) j i l k) (ok .agree _ _ a b) s e q) in
+          let r = extra (nth gs i) (nth gs j) (sharing-larger (nth gs i) (nth gs j) (ok .long _ a ∙ sym (ok .long _ b))
+          (strict-at gs (ok .strict) j i l k) (ok .agree _ _ a b) s e q) in
           second-node j (r .0) k (sample n gs ok i (r .0) h (r .1)) (r .2) p (kid i (r .0) h (r .1))
 
   pub root : f n ≡ o
@@ -171,7 +185,8 @@ fewer n gs ok = go (ltb (length gs) n) refl
       arith,
       ltb-false (length gs) n e,
       twice (up n gs) n (length gs) (range 0 m) (two-children n gs ok m (up n gs) (up-is n gs)),
-      weigh-one (λ u. 1) (λ u. eqb (up n gs u) m) (range 0 m) n (range-in 0 m n zero-le (omega (arith, some n gs ok))) (eq-eqb _ _ (root n gs ok m (up n gs) (up-is n gs))),
+      weigh-one (λ u. 1) (λ u. eqb (up n gs u) m) (range 0 m) n (range-in 0 m n zero-le (omega (arith, some n gs ok)))
+          (eq-eqb _ _ (root n gs ok m (up n gs) (up-is n gs))),
       count-all (λ (u : ℕ). true) (range 0 m) (λ x i. refl),
       length-range 0 m,
     )) in absurd (omega (arith, ltb-true (up n gs (r .0)) m (r .2), eqb-true (up n gs (r .0)) m (r .3)))

@@ -111,7 +111,8 @@ unfolding within
 within-to [] h e s f = absurd (false≢true f)
 within-to (x ∷ g) [] e zero f = absurd (false≢true (sym (not-true x (and-l (not x) (within g []) e)) ∙ f))
 within-to (x ∷ g) [] e (suc s) f = within-to g [] (and-r (not x) (within g []) e) s f
-within-to (x ∷ g) (y ∷ h) e zero f = ⊎-elim (λ q. absurd (false≢true (sym (not-true x q) ∙ f))) (λ q. q) (or-cases (not x) y (and-l (not x || y) (within g h) e))
+within-to (x ∷ g) (y ∷ h) e zero f = ⊎-elim (λ q. absurd (false≢true (sym (not-true x q) ∙ f))) (λ q. q)
+    (or-cases (not x) y (and-l (not x || y) (within g h) e))
 within-to (x ∷ g) (y ∷ h) e (suc s) f = within-to g h (and-r (not x || y) (within g h) e) s f
 
 pub within-from : (g h : Group) → Within g h → within g h ≡ true
@@ -135,7 +136,8 @@ pub apart-from : (g h : Group) → Apart g h → apart g h ≡ true
 unfolding apart
 apart-from [] h f = refl
 apart-from (x ∷ g) [] f = refl
-apart-from (x ∷ g) (y ∷ h) f = and-both (not (x && y)) (apart g h) (ap not (not-yes (x && y) (λ e. false≢true (sym (f 0 (and-l x y e)) ∙ and-r x y e)))) (apart-from g h (λ s. f (suc s)))
+apart-from (x ∷ g) (y ∷ h) f = and-both (not (x && y)) (apart g h)
+    (ap not (not-yes (x && y) (λ e. false≢true (sym (f 0 (and-l x y e)) ∙ and-r x y e)))) (apart-from g h (λ s. f (suc s)))
 
 pub within-size : (g h : Group) → Within g h → size g ≤ size h
 unfolding size
@@ -166,7 +168,8 @@ pub data Agree (g h : Group) : Type 0 where
   aside : Apart g h → Agree g h
 
 pub agree-to : (g h : Group) → agree g h ≡ true → Agree g h
-agree-to g h e = ⊎-elim (λ q. ⊎-elim (λ p. under (within-to g h p)) (λ p. over (within-to h g p)) (or-cases (within g h) (within h g) q)) (λ q. aside (apart-to g h q)) (or-cases (within g h || within h g) (apart g h) e)
+agree-to g h e = ⊎-elim (λ q. ⊎-elim (λ p. under (within-to g h p)) (λ p. over (within-to h g p)) (or-cases (within g h) (within h g) q))
+    (λ q. aside (apart-to g h q)) (or-cases (within g h || within h g) (apart g h) e)
 
 pub agree-from : (g h : Group) → Agree g h → agree g h ≡ true
 agree-from g h (under f) = or-l (within g h || within h g) (apart g h) (or-l (within g h) (within h g) (within-from g h f))
@@ -215,7 +218,8 @@ single-small n s = go (size (single n s)) refl
 
 -- a group of one sample is that sample's
 pub size-single : (n : ℕ) (g : Group) → length g ≡ n → size g ≡ 1 → g ≡ single n (lowest g)
-size-single n g l z = within-eq g (single n (lowest g)) (l ∙ sym (length-tabulate n (λ u. eqb u (lowest g)) 0)) inside (omega (arith, single-small n (lowest g)))
+size-single n g l z = within-eq g (single n (lowest g)) (l ∙ sym (length-tabulate n (λ u. eqb u (lowest g)) 0)) inside
+    (omega (arith, single-small n (lowest g)))
   where
     inside : Within g (single n (lowest g))
     inside s e = has-single n (lowest g) s (omega (arith, has-lt g s e)) ∙ one (eqb s (lowest g)) refl

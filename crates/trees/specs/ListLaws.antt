@@ -32,7 +32,8 @@ module _ {A : Type 0} where
   tabulate-eq [] zero f s d l h = refl
   tabulate-eq [] (suc n) f s d l h = absurd (omega arith)
   tabulate-eq (x ∷ xs) zero f s d l h = absurd (omega arith)
-  tabulate-eq (x ∷ xs) (suc n) f s d l h = let a : f s ≡ x = (rw add-zero at (h 0 (omega arith))) in cc (tabulate-eq xs n f (suc s) d (suc-inj l) (λ i k. rw (suc-add, ← add-suc) (h (suc i) (suc-le-suc k))))
+  tabulate-eq (x ∷ xs) (suc n) f s d l h = let a : f s ≡ x = (rw add-zero at (h 0 (omega arith))) in
+      cc (tabulate-eq xs n f (suc s) d (suc-inj l) (λ i k. rw (suc-add, ← add-suc) (h (suc i) (suc-le-suc k))))
 
   -- a table of m + n values is one of m and one of n
   pub tabulate-add : (m n : ℕ) (f : ℕ → A) (s : ℕ) → tabulate (m + n) f s ≡ tabulate m f s ++ tabulate n f (s + m)
@@ -126,7 +127,13 @@ scan-from (suc d) t a b h = go (decide (ltb a b)) (decide (t a)) (scan-from d t 
     at-or-past e i f j k m = ⊎-elim (λ q. rw (← q) e) (λ l. f j l m) (eq-or-lt-of-le k)
 
     there : a < b → t a ≡ false → Scan t (suc a) b (first t (range (suc a) b)) → Scan t a b (first t (range a b))
-    there l e (found i p w) = found i (first-pass t a b l e ∙ p) record { from = omega (arith, w .from); to = w .to; passes = w .passes; none = at-or-past e i (w .none) }
+    there l e (found i p w) = found i (first-pass t a b l e ∙ p) record {
+      from = omega
+          (arith, w .from);
+      to = w .to;
+      passes = w .passes;
+      none = at-or-past e i (w .none);
+    }
     there l e (missed p f) = missed (first-pass t a b l e ∙ p) (at-or-past e b f)
 
     go : (ltb a b ≡ true) ⊎ (ltb a b ≡ false) → (t a ≡ true) ⊎ (t a ≡ false) → Scan t (suc a) b (first t (range (suc a) b)) → Scan t a b (first t (range a b))
@@ -193,7 +200,8 @@ module _ {A : Type 0} (w : A → ℕ) where
   weigh-sum p q (x ∷ xs) = go (p x) (q x) (weigh-sum p q xs)
     where
       go : (a b : Bool) → weigh w p xs + weigh w q xs ≡ weigh w (λ y. p y && q y) xs + weigh w (λ y. p y || q y) xs
-          → (cond a (w x) 0 + weigh w p xs) + (cond b (w x) 0 + weigh w q xs) ≡ (cond (a && b) (w x) 0 + weigh w (λ y. p y && q y) xs) + (cond (a || b) (w x) 0 + weigh w (λ y. p y || q y) xs)
+          → (cond a (w x) 0 + weigh w p xs) + (cond b (w x) 0 + weigh w q xs) ≡ (cond (a && b) (w x) 0 + weigh w (λ y. p y && q y) xs) +
+          (cond (a || b) (w x) 0 + weigh w (λ y. p y || q y) xs)
       go true true h = omega arith
       go true false h = omega arith
       go false true h = omega arith
@@ -215,12 +223,14 @@ module _ {A : Type 0} (w : A → ℕ) where
   weigh-found t [] h = absurd (omega arith)
   weigh-found t (x ∷ xs) h = go (decide (t x)) h (λ k. weigh-found t xs k)
     where
-      go : (t x ≡ true) ⊎ (t x ≡ false) → 1 ≤ cond (t x) (w x) 0 + weigh w t xs → (1 ≤ weigh w t xs → (y : A) × List·Memᴰ y xs × (t y ≡ true)) → (y : A) × List·Memᴰ y (x ∷ xs) × (t y ≡ true)
+      go : (t x ≡ true) ⊎ (t x ≡ false) → 1 ≤ cond (t x) (w x) 0 + weigh w t xs → (1 ≤ weigh w t xs → (y : A) × List·Memᴰ y xs × (t y ≡ true))
+          → (y : A) × List·Memᴰ y (x ∷ xs) × (t y ≡ true)
       go (inl e) k r = (x, List·Memᴰ·head refl, e)
       go (inr e) k r = let u = r (omega (arith, rw e at k)) in (u .0, List·Memᴰ·tail (u .1), u .2)
 
   -- two tests that never both pass, under one that passes where either does
-  pub weigh-apart : (p q t : A → Bool) (xs : List A) → ((x : A) → List·Memᴰ x xs → p x ≡ true → (t x ≡ true) × (q x ≡ false)) → ((x : A) → List·Memᴰ x xs → q x ≡ true → t x ≡ true) → weigh w p xs + weigh w q xs ≤ weigh w t xs
+  pub weigh-apart : (p q t : A → Bool) (xs : List A) → ((x : A) → List·Memᴰ x xs → p x ≡ true → (t x ≡ true) × (q x ≡ false))
+      → ((x : A) → List·Memᴰ x xs → q x ≡ true → t x ≡ true) → weigh w p xs + weigh w q xs ≤ weigh w t xs
   weigh-apart p q t xs f g = omega (
     arith,
     weigh-sum p q xs,
@@ -233,7 +243,8 @@ module _ {A : Type 0} (w : A → ℕ) where
   weigh-cover t p q xs h = omega (arith, weigh-sum p q xs, weigh-mono t (λ x. p x || q x) xs h)
 
   -- PIGEONHOLE: two tests that weigh more than the whole list are passed together by one member
-  pub weigh-both : (p q : A → Bool) (xs : List A) → weigh w (λ x. true) xs < weigh w p xs + weigh w q xs → (x : A) × List·Memᴰ x xs × (p x ≡ true) × (q x ≡ true)
+  pub weigh-both : (p q : A → Bool) (xs : List A) → weigh w (λ x. true) xs < weigh w p xs + weigh w q xs
+      → (x : A) × List·Memᴰ x xs × (p x ≡ true) × (q x ≡ true)
   weigh-both p q xs h =
       let r = weigh-found (λ x. p x && q x) xs (omega (arith, weigh-sum p q xs, weigh-mono (λ x. p x || q x) (λ x. true) xs (λ x m e. refl))) in
       (r .0, r .1, and-l (p (r .0)) (q (r .0)) (r .2), and-r (p (r .0)) (q (r .0)) (r .2))
@@ -270,7 +281,8 @@ count-two t xs a b m k d e f = omega (
 )
 
 -- where one test is under another and no less is counted, the other is under it
-pub count-tight : (p q : ℕ → Bool) (xs : List ℕ) → ((x : ℕ) → List·Memᴰ x xs → p x ≡ true → q x ≡ true) → count q xs ≤ count p xs → (x : ℕ) → List·Memᴰ x xs → q x ≡ true → p x ≡ true
+pub count-tight : (p q : ℕ → Bool) (xs : List ℕ) → ((x : ℕ) → List·Memᴰ x xs → p x ≡ true → q x ≡ true) → count q xs ≤ count p xs → (x : ℕ)
+    → List·Memᴰ x xs → q x ≡ true → p x ≡ true
 count-tight p q xs h e x m f = go (decide (p x))
   where
     go : (p x ≡ true) ⊎ (p x ≡ false) → p x ≡ true
@@ -288,8 +300,13 @@ unfolding weigh tabulate
 once zero s c = zero-le
 once (suc m) s c = go (decide (eqb s c)) (once m (suc s) c)
   where
-    go : (eqb s c ≡ true) ⊎ (eqb s c ≡ false) → count (λ u. eqb u c) (tabulate m (λ u. u) (suc s)) ≤ 1 → cond (eqb s c) 1 0 + count (λ u. eqb u c) (tabulate m (λ u. u) (suc s)) ≤ 1
-    go (inl e) h = rw e (omega (arith, weigh-none (λ x. 1) (λ u. eqb u c) (tabulate m (λ u. u) (suc s)) (λ x i. ne-eqb x c (λ q. omega (arith, in-tabulate m (suc s) x i .0, eqb-true s c e)))))
+    go : (eqb s c ≡ true) ⊎ (eqb s c ≡ false) → count (λ u. eqb u c) (tabulate m (λ u. u) (suc s)) ≤ 1
+        → cond (eqb s c) 1 0 + count (λ u. eqb u c) (tabulate m (λ u. u) (suc s)) ≤ 1
+    go (inl e) h = rw e (omega (
+      arith,
+      weigh-none (λ x. 1) (λ u. eqb u c) (tabulate m (λ u. u) (suc s))
+          (λ x i. ne-eqb x c (λ q. omega (arith, in-tabulate m (suc s) x i .0, eqb-true s c e))),
+    ))
     go (inr e) h = rw e (omega arith)
 
 -- two of a range pass: one does beside any given number

@@ -70,7 +70,8 @@ unfolding member enter
 member-enter x g [] = refl
 member-enter x g (h ∷ hs) = go (before g h) (same g h) refl (member-enter x g hs)
   where
-    go : (a b : Bool) → same g h ≡ b → member x (enter g hs) ≡ (same x g || member x hs) → member x (cond a (g ∷ h ∷ hs) (cond b (h ∷ hs) (h ∷ enter g hs))) ≡ (same x g || (same x h || member x hs))
+    go : (a b : Bool) → same g h ≡ b → member x (enter g hs) ≡ (same x g || member x hs)
+        → member x (cond a (g ∷ h ∷ hs) (cond b (h ∷ hs) (h ∷ enter g hs))) ≡ (same x g || (same x h || member x hs))
     go true b e ih = refl
     go false true e ih = rw (same-eq g h e, or-self-left)
     go false false e ih = rw ih (or-swap (same x h) (same x g) (member x hs))
@@ -90,7 +91,8 @@ unfolding member filter
 member-filter x p [] = true-eq _ _ (λ e. cc) (and-r (p x) false)
 member-filter x p (g ∷ gs) = go (p g) refl (same x g) refl (member-filter x p gs)
   where
-    go : (a : Bool) → p g ≡ a → (b : Bool) → same x g ≡ b → member x (filter p gs) ≡ (p x && member x gs) → member x (cond a (g ∷ filter p gs) (filter p gs)) ≡ (p x && (b || member x gs))
+    go : (a : Bool) → p g ≡ a → (b : Bool) → same x g ≡ b → member x (filter p gs) ≡ (p x && member x gs)
+        → member x (cond a (g ∷ filter p gs) (filter p gs)) ≡ (p x && (b || member x gs))
     go true q true e ih = let y : p x ≡ true = ap p (same-eq x g e) ∙ q in rw (e, y)
     go true q false e ih = rw (e, ih)
     go false q true e ih = let y : p x ≡ false = ap p (same-eq x g e) ∙ q in rw (ih, y)
@@ -110,7 +112,11 @@ strict-enter g (h ∷ hs) s = go (before g h) refl (same g h) refl (strict-enter
         front x (inl e) = rw e p
         front x (inr m) = before-trans g h x p (s .0 x m)
     go false p true q ih = s
-    go false p false q ih = (λ x m. back x (⊎-elim (λ e. inl (same-eq x g e)) (λ k. inr k) (or-cases (same x g) (member x hs) (sym (member-enter x g hs) ∙ m))), ih)
+    go false p false q ih = (
+      λ x m. back x (⊎-elim (λ e. inl (same-eq x g e)) (λ k. inr k)
+          (or-cases (same x g) (member x hs) (sym (member-enter x g hs) ∙ m))),
+      ih,
+    )
       where
         other : before h g ≡ true
         other = elim (order g h) [ first e ↦ cc | equal e ↦ cc (eq-same g h e) | later e ↦ e ]
@@ -152,7 +158,11 @@ pub strict-unique : (gs hs : List Group) → Strict gs → Strict hs → ((x : G
 strict-unique [] [] s t m = refl
 strict-unique [] (h ∷ hs) s t m = absurd (in-none h (m h ∙ in-head h hs))
 strict-unique (g ∷ gs) [] s t m = absurd (in-none g (sym (m g) ∙ in-head g gs))
-strict-unique (g ∷ gs) (h ∷ hs) s t m = cc (heads, strict-unique gs hs (s .1) (t .1) (λ x. true-eq _ _ (tails g h gs hs heads s (λ y. m y) x) (tails h g hs gs (sym heads) t (λ y. sym (m y)) x)))
+strict-unique (g ∷ gs) (h ∷ hs) s t m = cc (
+  heads,
+  strict-unique gs hs (s .1) (t .1)
+      (λ x. true-eq _ _ (tails g h gs hs heads s (λ y. m y) x) (tails h g hs gs (sym heads) t (λ y. sym (m y)) x)),
+)
   where
     heads : g ≡ h
     heads = go (in-cases g h hs (sym (m g) ∙ in-head g gs)) (in-cases h g gs (m h ∙ in-head h hs))
@@ -167,7 +177,8 @@ ordered-strict gs s = strict-unique (ordered gs) gs (strict-ordered gs) s (λ x.
 
 -- a list's order depends on its set of members alone
 pub ordered-same : (gs hs : List Group) → ((x : Group) → member x gs ≡ member x hs) → ordered gs ≡ ordered hs
-ordered-same gs hs e = strict-unique (ordered gs) (ordered hs) (strict-ordered gs) (strict-ordered hs) (λ x. member-ordered x gs ∙ e x ∙ sym (member-ordered x hs))
+ordered-same gs hs e = strict-unique (ordered gs) (ordered hs) (strict-ordered gs) (strict-ordered hs)
+    (λ x. member-ordered x gs ∙ e x ∙ sym (member-ordered x hs))
 
 -- ---- strict order by neighbours
 

@@ -53,7 +53,8 @@ tree-same n gs hs e t = record {
 
 module _ (n : ℕ) (gs : List Group) (tree : Tree n gs) (strict : Strict gs) (least : fewestSamples ≤ n) (most : n ≤ mostSamples) where
   in-branching : (g : Group) → In g (branching gs) → (2 ≤ size g) × In g gs
-  in-branching g m = let e : leb 2 (size g) && member g gs ≡ true = sym (member-filter g (λ h. leb 2 (size h)) gs) ∙ m in (leb-true 2 (size g) (and-l (leb 2 (size g)) (member g gs) e), and-r (leb 2 (size g)) (member g gs) e)
+  in-branching g m = let e : leb 2 (size g) && member g gs ≡ true = sym (member-filter g (λ h. leb 2 (size h)) gs)
+      ∙ m in (leb-true 2 (size g) (and-l (leb 2 (size g)) (member g gs) e), and-r (leb 2 (size g)) (member g gs) e)
 
   branching-in : (g : Group) → 2 ≤ size g → In g gs → In g (branching gs)
   branching-in g z m = member-filter g (λ h. leb 2 (size h)) gs ∙ and-both (leb 2 (size g)) (member g gs) (le-leb 2 (size g) z) m
@@ -79,12 +80,14 @@ module _ (n : ℕ) (gs : List Group) (tree : Tree n gs) (strict : Strict gs) (le
       one m = let t = in-table n (single n) 0 x m in rw (← (t .3)) (tree .leaf (t .0) (omega arith))
 
       two : In x gs → member x (tabulate n (single n) 0) || member x (branching gs) ≡ true
-      two m = ⊎-elim single-one (λ z. or-r (member x (tabulate n (single n) 0)) (member x (branching gs)) (branching-in x z m)) (eq-or-lt-of-le (tree .full x m))
+      two m = ⊎-elim single-one (λ z. or-r (member x (tabulate n (single n) 0)) (member x (branching gs)) (branching-in x z m))
+          (eq-or-lt-of-le (tree .full x m))
         where
           single-one : 1 ≡ size x → member x (tabulate n (single n) 0) || member x (branching gs) ≡ true
           single-one z =
               let l : lowest x < n = omega (arith, has-lt x (lowest x) (lowest-has x (omega arith)), tree .long x m) in
-              or-l (member x (tabulate n (single n) 0)) (member x (branching gs)) (rw (size-single n x (tree .long x m) (sym z)) (table-in n (single n) 0 (lowest x) zero-le (omega arith)))
+              or-l (member x (tabulate n (single n) 0)) (member x (branching gs))
+              (rw (size-single n x (tree .long x m) (sym z)) (table-in n (single n) 0 (lowest x) zero-le (omega arith)))
 
 -- ---- renumbering
 
@@ -125,7 +128,10 @@ renumbered-twice n r ok = renumbered-same n (renumbered n r) r (renumbered-group
 -- a standard row is its own renumbering
 pub standard-renumbered : (n : ℕ) (r : List ℕ) → Standard n r → renumbered n r ≡ r
 unfolding renumbered
-standard-renumbered n r std = ap (rowOf n) (strict-unique (branching (groupSet n r)) (inner n r) (tree-family n (groupSet n r) (set-tree n r ok) (set-strict n r ok) (ok .least) (ok .most) .strict) (std .strict) same-members) ∙ standard-row n r std
+standard-renumbered n r std = ap (rowOf n)
+    (strict-unique (branching (groupSet n r)) (inner n r)
+    (tree-family n (groupSet n r) (set-tree n r ok) (set-strict n r ok) (ok .least) (ok .most) .strict) (std .strict) same-members)
+    ∙ standard-row n r std
   where
     ok : Valid n r
     ok = std .valid
@@ -137,14 +143,16 @@ standard-renumbered n r std = ap (rowOf n) (strict-unique (branching (groupSet n
         to m =
             let t = in-branching n (groupSet n r) (set-tree n r ok) (set-strict n r ok) (ok .least) (ok .most) x m in
             ⊎-elim (λ e. absurd (few (t .0) e)) (λ k. k)
-            (or-cases (member x (tabulate n (single n) 0)) (member x (inner n r)) (sym (member-append x (tabulate n (single n) 0) (inner n r)) ∙ (rw (groups-split n r ok) at (sym (member-set n r ok x) ∙ t .1))))
+            (or-cases (member x (tabulate n (single n) 0)) (member x (inner n r))
+            (sym (member-append x (tabulate n (single n) 0) (inner n r)) ∙ (rw (groups-split n r ok) at (sym (member-set n r ok x) ∙ t .1))))
           where
             few : 2 ≤ size x → In x (tabulate n (single n) 0) → ⊥
             few z i = let u = in-table n (single n) 0 x i in omega (arith, single-small n (u .0), ap size (u .3))
 
         from : In x (inner n r) → In x (branching (groupSet n r))
         from m = let t = in-inner n r x m in
-            branching-in n (groupSet n r) (set-tree n r ok) (set-strict n r ok) (ok .least) (ok .most) x (rw (← (t .3)) (inner-two n r ok (t .0) (t .1) (t .2))) (member-set n r ok x ∙ (rw (← (t .3)) (groups-in n r (t .0) (t .2))))
+            branching-in n (groupSet n r) (set-tree n r ok) (set-strict n r ok) (ok .least) (ok .most) x
+            (rw (← (t .3)) (inner-two n r ok (t .0) (t .1) (t .2))) (member-set n r ok x ∙ (rw (← (t .3)) (groups-in n r (t .0) (t .2))))
 
 -- "the tree exists and is unique": two standard rows with equal groups are equal
 pub standard-unique : (n : ℕ) (r q : List ℕ) → Standard n r → Standard n q → ((x : Group) → member x (groups n r) ≡ member x (groups n q)) → r ≡ q

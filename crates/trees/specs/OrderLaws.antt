@@ -48,8 +48,18 @@ lists [] (y ∷ h) = Lists.first refl
 lists (x ∷ g) [] = Lists.later refl
 lists (true ∷ g) (false ∷ h) = Lists.first refl
 lists (false ∷ g) (true ∷ h) = Lists.later refl
-lists (true ∷ g) (true ∷ h) = elim (lists g h) [ Lists.first e ↦ Lists.first e | Lists.equal e ↦ Lists.equal (ap (λ (l : Group). true ∷ l) e) | Lists.later e ↦ Lists.later e ]
-lists (false ∷ g) (false ∷ h) = elim (lists g h) [ Lists.first e ↦ Lists.first e | Lists.equal e ↦ Lists.equal (ap (λ (l : Group). false ∷ l) e) | Lists.later e ↦ Lists.later e ]
+lists (true ∷ g) (true ∷ h) = elim (lists g h) [
+  | Lists.first e ↦ Lists.first e
+  | Lists.equal e ↦ Lists.equal
+      (ap (λ (l : Group). true ∷ l) e)
+  | Lists.later e ↦ Lists.later e
+]
+lists (false ∷ g) (false ∷ h) = elim (lists g h) [
+  | Lists.first e ↦ Lists.first e
+  | Lists.equal e ↦ Lists.equal
+      (ap (λ (l : Group). false ∷ l) e)
+  | Lists.later e ↦ Lists.later e
+]
 
 -- ---- by size, then by list
 

@@ -51,7 +51,8 @@ module _ (n : ℕ) (gs : List Group) (few : n + length gs < rootMark) (nest : Ne
       go (equal h) = rw (← h, q, le-ltb i i (omega arith), lt-ltb i (suc i) (omega arith))
       go (more h) = rw (lt-ltb j i h, lt-ltb j (suc i) (omega arith))
 
-  step : (i j s : ℕ) → i < length gs → has (nth gs i) s ≡ true → (eqb (n + i) (n + j) || (ltb j i && has (nth gs j) (lowest (nth gs i)))) ≡ (ltb j (suc i) && has (nth gs j) s)
+  step : (i j s : ℕ) → i < length gs → has (nth gs i) s ≡ true
+      → (eqb (n + i) (n + j) || (ltb j i && has (nth gs j) (lowest (nth gs i)))) ≡ (ltb j (suc i) && has (nth gs j) s)
   step i j s b q = go (tri i j)
     where
       go : Tri i j → (eqb (n + i) (n + j) || (ltb j i && has (nth gs j) (lowest (nth gs i)))) ≡ (ltb j (suc i) && has (nth gs j) s)
@@ -64,7 +65,8 @@ module _ (n : ℕ) (gs : List Group) (few : n + length gs < rootMark) (nest : Ne
   unfolding lastWith meets
   climb zero f j s a b = rw (le-ltb j 0 zero-le)
   climb (suc i) zero j s a b = absurd (omega arith)
-  climb (suc i) (suc f) j s a b = rw (last-suc s gs i n rootMark b) (go (has (nth gs i) s) refl (climb i (suc f) j s (omega arith) (omega arith)) (climb i f j (lowest (nth gs i)) (omega arith) (omega arith)))
+  climb (suc i) (suc f) j s a b = rw (last-suc s gs i n rootMark b)
+      (go (has (nth gs i) s) refl (climb i (suc f) j s (omega arith) (omega arith)) (climb i f j (lowest (nth gs i)) (omega arith) (omega arith)))
     where
       go : (x : Bool) → has (nth gs i) s ≡ x → above (suc f) (rowOf n gs) (n + j) (lastWith s (take i gs) n rootMark) ≡ (ltb j i && has (nth gs j) s)
           → above f (rowOf n gs) (n + j) (lastWith (lowest (nth gs i)) (take i gs) n rootMark) ≡ (ltb j i && has (nth gs j) (lowest (nth gs i)))
@@ -75,7 +77,8 @@ module _ (n : ℕ) (gs : List Group) (few : n + length gs < rootMark) (nest : Ne
   met : (f j s : ℕ) → length gs < f → j < length gs → s < n → meets f (rowOf n gs) (n + j) s ≡ has (nth gs j) s
   unfolding meets
   met zero j s a b c = absurd (omega arith)
-  met (suc f) j s a b c = rw (ne-eqb s (n + j) (λ e. omega arith), parent-leaf n gs s c) (rw (take-length, lt-ltb j (length gs) b) at (climb (length gs) f j s (omega arith) (omega arith)))
+  met (suc f) j s a b c = rw (ne-eqb s (n + j) (λ e. omega arith), parent-leaf n gs s c)
+      (rw (take-length, lt-ltb j (length gs) b) at (climb (length gs) f j s (omega arith) (omega arith)))
 
   group-at : (j : ℕ) → 0 < n → j < length gs → length (nth gs j) ≡ n → groupAt n (rowOf n gs) (n + j) ≡ nth gs j
   unfolding groupAt
@@ -127,14 +130,20 @@ module _ (n : ℕ) (gs : List Group) (ok : Family n gs) (most : n ≤ mostSample
   by-node : (P : ℕ → Type 0) → ((s : ℕ) → s < n → P s) → ((i : ℕ) → i < length gs → P (n + i)) → (v : ℕ) → v < n + length gs → P v
   by-node P a b v h = ⊎-elim (λ e. a v (ltb-true _ _ e)) (λ e. by-inner P b v (ltb-false v n e) h) (decide (ltb v n))
 
-  up-at : (i : ℕ) → i < length gs → (parent (rowOf n gs) (n + i) ≡ rootMark) ⊎ ((n ≤ parent (rowOf n gs) (n + i)) × (parent (rowOf n gs) (n + i) < n + length gs))
+  up-at : (i : ℕ) → i < length gs → (parent (rowOf n gs) (n + i) ≡ rootMark) ⊎
+      ((n ≤ parent (rowOf n gs) (n + i)) × (parent (rowOf n gs) (n + i) < n + length gs))
   up-at zero h = inl (rw add-zero rooted)
   up-at (suc i) h = let r = inners (suc i) (omega arith) h in inr (r .0, omega arith)
 
   one-root : count (childOf (rowOf n gs) rootMark) (range n (n + length gs)) ≡ 1
   unfolding weigh
   one-root = rw (range-cons n (n + length gs) (omega (arith, some n gs ok)), rooted)
-      (omega (arith, weigh-none (λ u. 1) (childOf (rowOf n gs) rootMark) (range (suc n) (n + length gs)) (λ v m. let h = in-range (suc n) (n + length gs) v m in by-inner (λ u. n < u → childOf (rowOf n gs) rootMark u ≡ false) other v (omega arith) (omega arith) (omega arith))))
+      (omega (
+        arith,
+        weigh-none (λ u. 1) (childOf (rowOf n gs) rootMark) (range (suc n) (n + length gs))
+            (λ v m. let h = in-range (suc n) (n + length gs) v m in by-inner (λ u. n < u → childOf (rowOf n gs) rootMark u ≡ false) other v
+            (omega arith) (omega arith) (omega arith)),
+      ))
     where
       other : (i : ℕ) → i < length gs → n < n + i → childOf (rowOf n gs) rootMark (n + i) ≡ false
       other i h l = let r = inners i (omega arith) h in ne-eqb (parent (rowOf n gs) (n + i)) rootMark (λ q. omega (arith, room))

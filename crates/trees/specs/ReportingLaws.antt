@@ -37,13 +37,16 @@ Holder n g rs = (run : Run) × List·Memᴰ run rs × (holds n g (run .row) ≡ 
 
 pub in-held : (n : ℕ) (rs : List Run) (g : Group) → Holder n g rs → In g (held n rs)
 unfolding held
-in-held n (r ∷ rs) g (run, List·Memᴰ·head e, m) = member-append g (groups n (r .row)) (held n rs) ∙ or-l _ (member g (held n rs)) (ap (λ (q : Run). holds n g (q .row)) (sym e) ∙ m)
-in-held n (r ∷ rs) g (run, List·Memᴰ·tail d, m) = member-append g (groups n (r .row)) (held n rs) ∙ or-r (member g (groups n (r .row))) _ (in-held n rs g (run, d, m))
+in-held n (r ∷ rs) g (run, List·Memᴰ·head e, m) = member-append g (groups n (r .row)) (held n rs)
+    ∙ or-l _ (member g (held n rs)) (ap (λ (q : Run). holds n g (q .row)) (sym e) ∙ m)
+in-held n (r ∷ rs) g (run, List·Memᴰ·tail d, m) = member-append g (groups n (r .row)) (held n rs)
+    ∙ or-r (member g (groups n (r .row))) _ (in-held n rs g (run, d, m))
 
 pub held-in : (n : ℕ) (rs : List Run) (g : Group) → In g (held n rs) → Holder n g rs
 unfolding held
 held-in n [] g m = absurd (in-none g m)
-held-in n (r ∷ rs) g m = ⊎-elim (λ e. (r, List·Memᴰ·head refl, e)) (λ e. let t = held-in n rs g e in (t .0, List·Memᴰ·tail (t .1), t .2)) (or-cases (holds n g (r .row)) (member g (held n rs)) (sym (member-append g (groups n (r .row)) (held n rs)) ∙ m))
+held-in n (r ∷ rs) g m = ⊎-elim (λ e. (r, List·Memᴰ·head refl, e)) (λ e. let t = held-in n rs g e in (t .0, List·Memᴰ·tail (t .1), t .2))
+    (or-cases (holds n g (r .row)) (member g (held n rs)) (sym (member-append g (groups n (r .row)) (held n rs)) ∙ m))
 
 -- ---- any rule
 
@@ -70,7 +73,8 @@ module _ (rule : Rule) (n : ℕ) (rs : List Run) (ok : Runs n rs) (some : 0 < le
   first-run (run ∷ xs) h = (run, List·Memᴰ·head refl)
 
   by-all : (g : Group) → ((run : Run) → List·Memᴰ run rs → holds n g (run .row) ≡ true) → In g (shown rule n rs)
-  by-all g f = let t = first-run rs some in shown-member rule n rs g ∙ and-both (rule n rs g) (member g (held n rs)) (sound .unanimous g f) (in-held n rs g (t .0, t .1, f (t .0) (t .1)))
+  by-all g f = let t = first-run rs some in shown-member rule n rs g
+      ∙ and-both (rule n rs g) (member g (held n rs)) (sound .unanimous g f) (in-held n rs g (t .0, t .1, f (t .0) (t .1)))
 
   shown-tree : Tree n (shown rule n rs)
   shown-tree = record {
@@ -102,9 +106,11 @@ module _ (rule : Rule) (n : ℕ) (rs : List Run) (ok : Runs n rs) (some : 0 < le
 
   -- ---- the support row, word by word
 
-  words : supports rule n rs ≡ total rs ∷ (tabulate (nodes (agreed rule n rs)) (λ v. support n rs (groupAt n (agreed rule n rs) v)) 0 ++ zeros (rowWords n - 1 - nodes (agreed rule n rs)))
+  words : supports rule n rs ≡ total rs ∷ (tabulate (nodes (agreed rule n rs)) (λ v. support n rs (groupAt n (agreed rule n rs) v)) 0 ++ zeros
+      (rowWords n - 1 - nodes (agreed rule n rs)))
   unfolding supports groups
-  words = ap (λ (ws : List ℕ). total rs ∷ (ws ++ zeros (rowWords n - 1 - nodes (agreed rule n rs)))) (map-tabulate (support n rs) (nodes (agreed rule n rs)) (groupAt n (agreed rule n rs)) 0)
+  words = ap (λ (ws : List ℕ). total rs ∷ (ws ++ zeros (rowWords n - 1 - nodes (agreed rule n rs))))
+      (map-tabulate (support n rs) (nodes (agreed rule n rs)) (groupAt n (agreed rule n rs)) 0)
 
   pub supports-length : length (supports rule n rs) ≡ rowWords n
   supports-length = ap length words ∙ simp (length-append, length-tabulate, length-zeros) (omega (arith, agreed-standard .valid .high))
@@ -129,7 +135,8 @@ module _ (rule : Rule) (n : ℕ) (rs : List Run) (ok : Runs n rs) (some : 0 < le
   supports-filler zero h = absurd (omega arith)
   supports-filler (suc w) h =
       let e : w ≡ length (tabulate m f 0) + (w - m) = (rw length-tabulate (omega arith)) in
-      ap (λ (ws : List ℕ). getD ws (suc w) 0) words ∙ ap (λ (i : ℕ). getD (tabulate m f 0 ++ zeros (rowWords n - 1 - m)) i 0) e ∙ getD-append-add (tabulate m f 0) (zeros (rowWords n - 1 - m)) (w - m) 0 ∙ getD-zeros (rowWords n - 1 - m) (w - m)
+      ap (λ (ws : List ℕ). getD ws (suc w) 0) words ∙ ap (λ (i : ℕ). getD (tabulate m f 0 ++ zeros (rowWords n - 1 - m)) i 0) e
+      ∙ getD-append-add (tabulate m f 0) (zeros (rowWords n - 1 - m)) (w - m) 0 ∙ getD-zeros (rowWords n - 1 - m) (w - m)
     where
       m : ℕ
       m = nodes (agreed rule n rs)
@@ -158,9 +165,11 @@ unfolding support
 majority-held n rs g e = weigh-found worth (λ run. holds n g (run .row)) rs (omega (arith, majority-more n rs g e))
 
 -- two groups each held by more than half of the runs are held together by one run
-pub majority-together : (n : ℕ) (rs : List Run) (g h : Group) → majority n rs g ≡ true → majority n rs h ≡ true → (run : Run) × List·Memᴰ run rs × (holds n g (run .row) ≡ true) × (holds n h (run .row) ≡ true)
+pub majority-together : (n : ℕ) (rs : List Run) (g h : Group) → majority n rs g ≡ true → majority n rs h ≡ true
+    → (run : Run) × List·Memᴰ run rs × (holds n g (run .row) ≡ true) × (holds n h (run .row) ≡ true)
 unfolding support total
-majority-together n rs g h a b = weigh-both worth (λ run. holds n g (run .row)) (λ run. holds n h (run .row)) rs (omega (arith, majority-more n rs g a, majority-more n rs h b))
+majority-together n rs g h a b = weigh-both worth (λ run. holds n g (run .row)) (λ run. holds n h (run .row)) rs
+    (omega (arith, majority-more n rs g a, majority-more n rs h b))
 
 -- so they agree
 pub majority-agree : (n : ℕ) (rs : List Run) → Runs n rs → (g h : Group) → majority n rs g ≡ true → majority n rs h ≡ true → Agree g h
@@ -169,7 +178,8 @@ majority-agree n rs ok g h a b = let t = majority-together n rs g h a b in row-t
 -- a majority group is held by one of the first ⌈k/2⌉ runs
 pub majority-early : (n : ℕ) (rs : List Run) (g : Group) → majority n rs g ≡ true → Holder n g (take (references (length rs)) rs)
 unfolding support
-majority-early n rs g e = count-early (λ run. holds n g (run .row)) rs (references (length rs)) (omega (arith, total-length rs, majority-more n rs g e)) (half (length rs))
+majority-early n rs g e = count-early (λ run. holds n g (run .row)) rs (references (length rs))
+    (omega (arith, total-length rs, majority-more n rs g e)) (half (length rs))
   where
     half : (k : ℕ) → k ≤ 2 * references k
     half k = omega arith
@@ -178,8 +188,10 @@ module _ (n : ℕ) (rs : List Run) (ok : Runs n rs) (some : 0 < length rs) where
   pub majority-sound : Sound majority n rs
   unfolding support total
   majority-sound = record {
-    agree = λ g h m k. majority-agree n rs ok g h (and-l _ (member g (held n rs)) (sym (shown-member majority n rs g) ∙ m)) (and-l _ (member h (held n rs)) (sym (shown-member majority n rs h) ∙ k));
-    unanimous = λ g f. lt-ltb (total rs) (2 * support n rs g) (omega (arith, total-length rs, weigh-mono worth (λ run. true) (λ run. holds n g (run .row)) rs (λ run m e. f run m)));
+    agree = λ g h m k. majority-agree n rs ok g h (and-l _ (member g (held n rs)) (sym (shown-member majority n rs g) ∙ m))
+        (and-l _ (member h (held n rs)) (sym (shown-member majority n rs h) ∙ k));
+    unanimous = λ g f. lt-ltb (total rs) (2 * support n rs g)
+        (omega (arith, total-length rs, weigh-mono worth (λ run. true) (λ run. holds n g (run .row)) rs (λ run m e. f run m)));
   }
 
   pub majority-standard : Standard n (agreed majority n rs)
@@ -188,10 +200,12 @@ module _ (n : ℕ) (rs : List Run) (ok : Runs n rs) (some : 0 < length rs) where
   -- DEMAND 2, of the definition: of all groups whatever, exactly those held by more than half of the runs are groups of the agreed row
   pub majority-groups : (g : Group) → member g (groups n (agreed majority n rs)) ≡ ltb (length rs) (2 * support n rs g)
   majority-groups g = agreed-groups majority n rs ok some majority-sound g ∙ shown-member majority n rs g
-      ∙ true-eq (majority n rs g && member g (held n rs)) (majority n rs g) (and-l _ (member g (held n rs))) (λ e. and-both _ _ e (in-held n rs g (majority-held n rs g e)))
+      ∙ true-eq (majority n rs g && member g (held n rs)) (majority n rs g) (and-l _ (member g (held n rs)))
+      (λ e. and-both _ _ e (in-held n rs g (majority-held n rs g e)))
       ∙ ap (λ (k : ℕ). ltb k (2 * support n rs g)) (total-length rs)
 
   -- "Each support of a shown node is more than half of k and at most k."
-  pub majority-supports : (v : ℕ) → v < nodes (agreed majority n rs) → (length rs < 2 * support n rs (groupAt n (agreed majority n rs) v)) × (support n rs (groupAt n (agreed majority n rs) v) ≤ length rs)
+  pub majority-supports : (v : ℕ) → v < nodes (agreed majority n rs)
+      → (length rs < 2 * support n rs (groupAt n (agreed majority n rs) v)) × (support n rs (groupAt n (agreed majority n rs) v) ≤ length rs)
   majority-supports v h = let g = groupAt n (agreed majority n rs) v in
       (ltb-true _ _ (sym (majority-groups g) ∙ groups-in n (agreed majority n rs) v h), omega (arith, total-length rs, support-most n rs g))

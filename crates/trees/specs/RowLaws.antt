@@ -81,7 +81,8 @@ module _ (n : ℕ) (r : List ℕ) (ok : Valid n r) where
   above-trans w v u h a b = meets-less r (nodes r) (nodes r + nodes r) w u (ok .reach u h) (meets-trans r (nodes r) (nodes r) w v u a b)
 
   pub child-above : (c v : ℕ) → c < nodes r → v < nodes r → parent r c ≡ v → Above r v c
-  child-above c v h k e = meets-less r (nodes r) (suc (nodes r)) v c (ok .reach c h) (met-from r (nodes r) v c (up (rw e (no-mark v k)) (rw e (meets-refl r (nodes r) v))))
+  child-above c v h k e = meets-less r (nodes r) (suc (nodes r)) v c (ok .reach c h)
+      (met-from r (nodes r) v c (up (rw e (no-mark v k)) (rw e (meets-refl r (nodes r) v))))
 
   step-down : (f w v : ℕ) → meets f r w v ≡ true → v < nodes r → (v ≡ w → ⊥) → (c : ℕ) × (c < nodes r) × (parent r c ≡ w) × (meets f r c v ≡ true)
   step-down = below r (nodes r) (λ v h e. parent-range v h e .1)
@@ -106,15 +107,19 @@ module _ (n : ℕ) (r : List ℕ) (ok : Valid n r) where
   pub group-agree : (v w : ℕ) → Agree (groupAt n r v) (groupAt n r w)
   group-agree v w = go (decide (meets (nodes r) r w v)) (decide (meets (nodes r) r v w))
     where
-      go : (meets (nodes r) r w v ≡ true) ⊎ (meets (nodes r) r w v ≡ false) → (meets (nodes r) r v w ≡ true) ⊎ (meets (nodes r) r v w ≡ false) → Agree (groupAt n r v) (groupAt n r w)
+      go : (meets (nodes r) r w v ≡ true) ⊎ (meets (nodes r) r w v ≡ false) → (meets (nodes r) r v w ≡ true) ⊎ (meets (nodes r) r v w ≡ false)
+          → Agree (groupAt n r v) (groupAt n r w)
       go (inl p) q = under (above-within v w p)
       go (inr p) (inl q) = over (above-within w v q)
-      go (inr p) (inr q) = aside (λ s e. not-yes _ (λ f. ⊎-elim (λ x. false≢true (sym p ∙ x)) (λ x. false≢true (sym q ∙ x)) (meets-line r (nodes r) v w s (group-has n r v s e .1) (group-has n r w s f .1))))
+      go (inr p) (inr q) = aside (λ s e. not-yes _
+          (λ f. ⊎-elim (λ x. false≢true (sym p ∙ x)) (λ x. false≢true (sym q ∙ x))
+          (meets-line r (nodes r) v w s (group-has n r v s e .1) (group-has n r w s f .1))))
 
   -- ---- below each node there is a leaf, so that no group is empty
 
   some-child : (v : ℕ) → n ≤ v → v < nodes r → (c : ℕ) × (c < nodes r) × (parent r c ≡ v)
-  some-child v a h = let t = weigh-found (λ u. 1) (childOf r v) (range 0 (nodes r)) (omega (arith, ok .two v a h)) in (t .0, in-range 0 (nodes r) (t .0) (t .1) .1, eqb-true _ _ (t .2))
+  some-child v a h = let t = weigh-found (λ u. 1) (childOf r v) (range 0 (nodes r)) (omega (arith, ok .two v a h)) in
+      (t .0, in-range 0 (nodes r) (t .0) (t .1) .1, eqb-true _ _ (t .2))
 
   leaf-from : (d f v : ℕ) → f + d ≡ nodes r → v < nodes r → ends f r v ≡ false → (s : ℕ) × (s < n) × Above r v s
   leaf-from zero f v p h e = absurd (false≢true (sym e ∙ ap (λ (g : ℕ). ends g r v) (omega arith) ∙ ok .reach v h))
@@ -135,7 +140,8 @@ module _ (n : ℕ) (r : List ℕ) (ok : Valid n r) where
 
   pub leaf-group : (s : ℕ) → s < n → groupAt n r s ≡ single n s
   unfolding groupAt
-  leaf-group s h = tabulate-same n (meets (nodes r) r s) (λ t. eqb t s) 0 (λ t a b. true-eq _ _ (λ m. eq-eqb t s (no-leaf-above s t h (omega (arith, ok .low)) m)) (λ e. rw (eqb-true t s e) (meets-refl r (nodes r) s)))
+  leaf-group s h = tabulate-same n (meets (nodes r) r s) (λ t. eqb t s) 0
+      (λ t a b. true-eq _ _ (λ m. eq-eqb t s (no-leaf-above s t h (omega (arith, ok .low)) m)) (λ e. rw (eqb-true t s e) (meets-refl r (nodes r) s)))
 
   -- ---- the group of the root
 
@@ -147,7 +153,9 @@ module _ (n : ℕ) (r : List ℕ) (ok : Valid n r) where
       low p (inl q) = absurd (omega (arith, ok .leaf u (ltb-true u n q) .1, ok .high, ok .most))
       low p (inr q) = ltb-false u n q
 
-      go : (childOf r rootMark u ≡ true) ⊎ (childOf r rootMark u ≡ false) → (ends f r (parent r u) ≡ true → parent r u < nodes r → (w : ℕ) × (n ≤ w) × (w < nodes r) × (parent r w ≡ rootMark) × (meets f r w (parent r u) ≡ true))
+      go : (childOf r rootMark u ≡ true) ⊎ (childOf r rootMark u ≡ false)
+          → (ends f r (parent r u) ≡ true → parent r u < nodes r → (w : ℕ) × (n ≤ w) × (w < nodes r) × (parent r w ≡ rootMark) ×
+          (meets f r w (parent r u) ≡ true))
           → (w : ℕ) × (n ≤ w) × (w < nodes r) × (parent r w ≡ rootMark) × (meets (suc f) r w u ≡ true)
       go (inl p) k = (u, low (eqb-true _ _ p) (decide (ltb u n)), h, eqb-true _ _ p, meets-refl r (suc f) u)
       go (inr p) k = let t = k (sym (ends-up r f u p) ∙ e) (parent-range u h p .1) in (t .0, t .1, t .2, t .3, met-from r f (t .0) u (up p (t .4)))
@@ -157,7 +165,12 @@ module _ (n : ℕ) (r : List ℕ) (ok : Valid n r) where
     where
       go : (eqb v w ≡ true) ⊎ (eqb v w ≡ false) → v ≡ w
       go (inl e) = eqb-true v w e
-      go (inr e) = absurd (omega (arith, ok .one, count-two (childOf r rootMark) (range n (nodes r)) v w (range-in n (nodes r) v a h) (range-in n (nodes r) w b k) (eqb-false v w e) (eq-eqb _ _ p) (eq-eqb _ _ q)))
+      go (inr e) = absurd (omega (
+        arith,
+        ok .one,
+        count-two (childOf r rootMark) (range n (nodes r)) v w (range-in n (nodes r) v a h)
+            (range-in n (nodes r) w b k) (eqb-false v w e) (eq-eqb _ _ p) (eq-eqb _ _ q),
+      ))
 
   pub root-group : (v : ℕ) → n ≤ v → v < nodes r → parent r v ≡ rootMark → groupAt n r v ≡ whole n
   root-group v a h p = size-all n (groupAt n r v) (length-group n r v) (rw size-whole at (within-size (whole n) (groupAt n r v) inside))
@@ -169,12 +182,14 @@ module _ (n : ℕ) (r : List ℕ) (ok : Valid n r) where
           in-group n r v s l (rw (one-root (t .0) v (t .1) a (t .2) h (t .3) p) at (t .4))
 
   pub whole-inner : In (whole n) (inner n r)
-  whole-inner = let t = to-root (nodes r) n (ok .reach n (ok .low)) (ok .low) in rw (← root-group (t .0) (t .1) (t .2) (t .3)) (inner-in n r (t .0) (t .1) (t .2))
+  whole-inner = let t = to-root (nodes r) n (ok .reach n (ok .low)) (ok .low) in
+      rw (← root-group (t .0) (t .1) (t .2) (t .3)) (inner-in n r (t .0) (t .1) (t .2))
 
   -- ---- an inner node has two samples or more, since two of its children share none
 
   siblings : (v c d : ℕ) → c < nodes r → v < nodes r → parent r c ≡ v → parent r d ≡ v → (c ≡ d → ⊥) → Above r d c → ⊥
-  siblings v c d h k p q x m = no-loop r (suc (nodes r)) (nodes r) (nodes r) d v (omega arith) (rw p at (meets-past r (nodes r) d c x m)) q (no-mark v k) (ok .reach v k)
+  siblings v c d h k p q x m = no-loop r (suc (nodes r)) (nodes r) (nodes r) d v (omega arith) (rw p at (meets-past r (nodes r) d c x m)) q
+      (no-mark v k) (ok .reach v k)
 
   apart-below : (v c d s : ℕ) → c < nodes r → d < nodes r → v < nodes r → parent r c ≡ v → parent r d ≡ v → (c ≡ d → ⊥) → Above r c s → Above r d s → ⊥
   apart-below v c d s h l k p q x a b = ⊎-elim (siblings v c d h k p q x) (siblings v d c l k q p (λ e. x (sym e))) (meets-line r (nodes r) c d s a b)
@@ -184,15 +199,21 @@ module _ (n : ℕ) (r : List ℕ) (ok : Valid n r) where
   leaf-beside v c a h k p =
       let t = count-beside (childOf r v) 0 (nodes r) c (ok .two v a h) in
       let e : parent r (t .0) ≡ v = eqb-true _ _ (t .3) in
-      let s = leaf-below (t .0) (t .2) in
-      (s .0, s .1, above-trans v (t .0) (s .0) (omega (arith, ok .low)) (s .2) (child-above (t .0) v (t .2) h e), λ m. apart-below v c (t .0) (s .0) k (t .2) h p e (λ x. t .4 (sym x)) m (s .2))
+      let s = leaf-below (t .0) (t .2) in (
+        s .0,
+        s .1,
+        above-trans v (t .0) (s .0) (omega (arith, ok .low)) (s .2) (child-above (t .0) v (t .2) h e),
+        λ m. apart-below v c (t .0)
+            (s .0) k (t .2) h p e (λ x. t .4 (sym x)) m (s .2),
+      )
 
   pub inner-two : (v : ℕ) → n ≤ v → v < nodes r → 2 ≤ size (groupAt n r v)
   inner-two v a h =
       let c = some-child v a h in
       let s = leaf-below (c .0) (c .1) in
       let b = leaf-beside v (c .0) a h (c .1) (c .2) in
-      size-two (groupAt n r v) (s .0) (b .0) (in-group n r v (s .0) (s .1) (above-trans v (c .0) (s .0) (omega (arith, ok .low)) (s .2) (child-above (c .0) v (c .1) h (c .2)))) (in-group n r v (b .0) (b .1) (b .2))
+      size-two (groupAt n r v) (s .0) (b .0) (in-group n r v (s .0) (s .1)
+      (above-trans v (c .0) (s .0) (omega (arith, ok .low)) (s .2) (child-above (c .0) v (c .1) h (c .2)))) (in-group n r v (b .0) (b .1) (b .2))
       (λ q. b .3 (subst (Above r (c .0)) q (s .2)))
 
   -- ---- all groups: those of the single samples, and those of inner nodes
@@ -201,8 +222,10 @@ module _ (n : ℕ) (r : List ℕ) (ok : Valid n r) where
   unfolding groups inner
   groups-split =
       let e : nodes r ≡ n + (nodes r - n) = omega (arith, ok .low) in
-      ap (λ (k : ℕ). tabulate k (groupAt n r) 0) e ∙ tabulate-add n (nodes r - n) (groupAt n r) 0 ∙ ap (λ (k : ℕ). tabulate n (groupAt n r) 0 ++ tabulate (nodes r - n) (groupAt n r) k) (zero-add n)
-      ∙ ap (λ (gs : List Group). gs ++ tabulate (nodes r - n) (groupAt n r) n) (tabulate-same n (groupAt n r) (single n) 0 (λ s a b. leaf-group s (omega arith)))
+      ap (λ (k : ℕ). tabulate k (groupAt n r) 0) e ∙ tabulate-add n (nodes r - n) (groupAt n r) 0
+      ∙ ap (λ (k : ℕ). tabulate n (groupAt n r) 0 ++ tabulate (nodes r - n) (groupAt n r) k) (zero-add n)
+      ∙ ap (λ (gs : List Group). gs ++ tabulate (nodes r - n) (groupAt n r) n)
+      (tabulate-same n (groupAt n r) (single n) 0 (λ s a b. leaf-group s (omega arith)))
 
   -- a run holds every trivial group
   pub holds-trivial : (g : Group) → length g ≡ n → trivial g ≡ true → holds n g r ≡ true

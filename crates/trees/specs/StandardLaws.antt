@@ -30,7 +30,12 @@ use Rattle.trees.specs.RowLaws.{Above, length-group, group-has, in-group
 
 pub standard-to : (n : ℕ) (r : List ℕ) → standard n r ≡ true → Standard n r
 unfolding standard
-standard-to n r e = record { valid = judged-valid n r (go (judged n r) (and-l (isAccepted (judged n r)) (inOrder (inner n r)) e)); strict = in-order-strict (inner n r) (and-r (isAccepted (judged n r)) _ e) }
+standard-to n r e = record {
+  valid = judged-valid n r
+      (go (judged n r) (and-l (isAccepted (judged n r)) (inOrder (inner n r)) e));
+  strict = in-order-strict (inner n r)
+      (and-r (isAccepted (judged n r)) _ e);
+}
   where
     go : (v : Verdict) → isAccepted v ≡ true → v ≡ accepted
     go accepted q = refl
@@ -39,7 +44,8 @@ standard-to n r e = record { valid = judged-valid n r (go (judged n r) (and-l (i
 
 pub standard-from : (n : ℕ) (r : List ℕ) → Standard n r → standard n r ≡ true
 unfolding standard
-standard-from n r ok = and-both (isAccepted (judged n r)) (inOrder (inner n r)) (ap isAccepted (valid-judged n r (ok .valid))) (strict-in-order (inner n r) (ok .strict))
+standard-from n r ok = and-both (isAccepted (judged n r)) (inOrder (inner n r)) (ap isAccepted (valid-judged n r (ok .valid)))
+    (strict-in-order (inner n r) (ok .strict))
 
 module _ (n : ℕ) (r : List ℕ) (std : Standard n r) where
   ok : Valid n r
@@ -59,7 +65,8 @@ module _ (n : ℕ) (r : List ℕ) (std : Standard n r) where
   node-before v w a h k =
       let e : n + (v - n) ≡ v = add-sub-of-le a in
       let f : n + (w - n) ≡ w = add-sub-of-le (omega arith) in
-      rw (at-inner n r (v - n) (omega arith), at-inner n r (w - n) (omega arith), e, f) at (strict-at (inner n r) (std .strict) (w - n) (v - n) (omega arith) (omega (arith, length-inner n r)))
+      rw (at-inner n r (v - n) (omega arith), at-inner n r (w - n) (omega arith), e, f) at
+      (strict-at (inner n r) (std .strict) (w - n) (v - n) (omega arith) (omega (arith, length-inner n r)))
 
   -- different inner nodes have different groups
   pub standard-distinct : (v w : ℕ) → n ≤ v → v < w → w < nodes r → groupAt n r v ≡ groupAt n r w → ⊥
@@ -67,7 +74,8 @@ module _ (n : ℕ) (r : List ℕ) (std : Standard n r) where
 
   -- a node is above none of a lower number
   not-up : (v w : ℕ) → n ≤ v → v < w → w < nodes r → Above r w v → ⊥
-  not-up v w a h k m = standard-distinct v w a h k (within-eq (groupAt n r v) (groupAt n r w) (length-group n r v ∙ sym (length-group n r w)) (above-within n r ok v w m)
+  not-up v w a h k m = standard-distinct v w a h k
+      (within-eq (groupAt n r v) (groupAt n r w) (length-group n r v ∙ sym (length-group n r w)) (above-within n r ok v w m)
       (before-size (groupAt n r v) (groupAt n r w) (node-before v w a h k)))
 
   -- ---- the last of the groups below c that has s is the parent of u, where u has s and is not among those, nor above one of them
@@ -76,7 +84,9 @@ module _ (n : ℕ) (r : List ℕ) (std : Standard n r) where
       → ((l : ℕ) → l < c → (u ≡ n + l → ⊥) × (Above r u (n + l) → ⊥)) → lastWith s (take c (inner n r)) n rootMark ≡ parent r u
   last-parent c u s a h z m e b d =
       last-is n rootMark (inner n r) c (parent r u - n) s (omega (arith, p)) a
-      (rw (at-inner n r (parent r u - n) (omega (arith, p)), q) (in-group n r (parent r u) s z (above-trans n r ok (parent r u) u s (omega (arith, ok .low)) m (child-above n r ok u (parent r u) h (p .1) refl))))
+      (rw (at-inner n r (parent r u - n) (omega (arith, p)), q)
+      (in-group n r (parent r u) s z (above-trans n r ok (parent r u) u s (omega (arith, ok .low)) m
+      (child-above n r ok u (parent r u) h (p .1) refl))))
       (λ l i k. not-yes _ (λ f. none l i k f))
       ∙ q
     where
@@ -95,7 +105,8 @@ module _ (n : ℕ) (r : List ℕ) (std : Standard n r) where
   leaf-same : (s : ℕ) → s < n → lastWith s (inner n r) n rootMark ≡ parent r s
   leaf-same s h =
       let p = ok .leaf s h in
-      rw take-length at (last-parent (length (inner n r)) s s (omega arith) (omega (arith, ok .low)) h (meets-refl r (nodes r) s) (no-mark n r ok (parent r s) (p .1)) (omega (arith, length-inner n r))
+      rw take-length at (last-parent (length (inner n r)) s s (omega arith) (omega (arith, ok .low)) h (meets-refl r (nodes r) s)
+      (no-mark n r ok (parent r s) (p .1)) (omega (arith, length-inner n r))
       (λ l k. (λ q. omega arith, λ m. omega (arith, no-leaf-above n r ok s (n + l) h (omega (arith, length-inner n r)) m))))
 
   -- the parent of an inner node is the mark, of the first alone, or a smaller number
@@ -118,9 +129,11 @@ module _ (n : ℕ) (r : List ℕ) (std : Standard n r) where
 
           back : (eqb (parent r v) v ≡ true) ⊎ (eqb (parent r v) v ≡ false) → ⊥
           back (inl x) = no-loop r (suc (nodes r)) (nodes r) 0 v v (omega arith) (meets-refl r 0 v) (eqb-true _ _ x) (no-mark n r ok v h) (ok .reach v h)
-          back (inr x) = not-up v (parent r v) a (omega (arith, ltb-false (parent r v) v q, eqb-false (parent r v) v x)) (p .1) (child-above n r ok v (parent r v) h (p .1) refl)
+          back (inr x) = not-up v (parent r v) a (omega (arith, ltb-false (parent r v) v q, eqb-false (parent r v) v x)) (p .1)
+              (child-above n r ok v (parent r v) h (p .1) refl)
 
-      go : (childOf r rootMark v ≡ true) ⊎ (childOf r rootMark v ≡ false) → ((v ≡ n) × (parent r v ≡ rootMark)) ⊎ ((childOf r rootMark v ≡ false) × (parent r v < v))
+      go : (childOf r rootMark v ≡ true) ⊎ (childOf r rootMark v ≡ false)
+          → ((v ≡ n) × (parent r v ≡ rootMark)) ⊎ ((childOf r rootMark v ≡ false) × (parent r v < v))
       go (inl e) = inl (first e (decide (eqb v n)), eqb-true (parent r v) rootMark e)
       go (inr e) = inr (e, less e (decide (ltb (parent r v) v)))
 
@@ -132,14 +145,16 @@ module _ (n : ℕ) (r : List ℕ) (std : Standard n r) where
       s = lowest (nth (inner n r) j)
 
       full : has (groupAt n r (n + j)) s ≡ true
-      full = subst (λ (g : Group). has g s ≡ true) (at-inner n r j h) (lowest-has (nth (inner n r) j) (rw (at-inner n r j h) (omega (arith, inner-two n r ok (n + j) (omega arith) h))))
+      full = subst (λ (g : Group). has g s ≡ true) (at-inner n r j h)
+          (lowest-has (nth (inner n r) j) (rw (at-inner n r j h) (omega (arith, inner-two n r ok (n + j) (omega arith) h))))
 
       top : n + j ≡ n → parent r (n + j) ≡ rootMark → lastWith s (take j (inner n r)) n rootMark ≡ parent r (n + j)
       top q e = let z : j ≡ 0 = omega arith in ap (λ (c : ℕ). lastWith s (take c (inner n r)) n rootMark) z ∙ sym e
 
       other : childOf r rootMark (n + j) ≡ false → parent r (n + j) < n + j → lastWith s (take j (inner n r)) n rootMark ≡ parent r (n + j)
       other e q = let t = group-has n r (n + j) s full in
-          last-parent j (n + j) s (omega (arith, length-inner n r)) h (t .0) (t .1) e q (λ l i. (λ x. omega arith, not-up (n + l) (n + j) (omega arith) (omega arith) h))
+          last-parent j (n + j) s (omega (arith, length-inner n r)) h (t .0) (t .1) e q
+          (λ l i. (λ x. omega arith, not-up (n + l) (n + j) (omega arith) (omega arith) h))
 
   same-word : (w : ℕ) → w < length (rowOf n (inner n r)) → getD (rowOf n (inner n r)) w 0 ≡ getD r w 0
   unfolding parent nodes
@@ -154,7 +169,8 @@ module _ (n : ℕ) (r : List ℕ) (std : Standard n r) where
           rw e at (parent-inner n (inner n r) (v - n) (omega (arith, length-inner n r, ltb-false v n p)) ∙ inner-same (v - n) (omega arith))
       go (inr p) (inr q) =
           let l : nodes r ≤ v = ltb-false v (nodes r) q in
-          filler-row n (inner n r) (suc v) (omega (arith, length-inner n r, ok .low)) ∙ sym (ok .filler (suc v) (omega arith) (omega (arith, planted-valid n (inner n r) standard-family (ok .most) .words)))
+          filler-row n (inner n r) (suc v) (omega (arith, length-inner n r, ok .low))
+          ∙ sym (ok .filler (suc v) (omega arith) (omega (arith, planted-valid n (inner n r) standard-family (ok .most) .words)))
 
   -- a standard row is the row of its inner groups
   pub standard-row : rowOf n (inner n r) ≡ r

@@ -28,7 +28,8 @@ module _ (n : ℕ) (r : List ℕ) where
       let b = outside-not fewestSamples mostSamples n (line-passes 1 (outside fewestSamples mostSamples n) (h .0)) in
       let w = eqb-true (length r) (rowWords n) (not-false _ (line-passes 3 (not (eqb (length r) (rowWords n))) (h .1 .0))) in
       let m = outside-not (n + 1) (rowWords n - 1) (nodes r) (line-passes 5 (outside (n + 1) (rowWords n - 1) (nodes r)) (h .1 .1 .0)) in
-      let p : (v : ℕ) → v < nodes r → ((n ≤ parent r v) × (parent r v < nodes r)) ⊎ ((n ≤ v) × (parent r v ≡ rootMark)) = λ v l. stray-not n (nodes r) v (parent r v) (first-nowhere _ 0 (nodes r) (h .1 .1 .1 .0) v zero-le l) in
+      let p : (v : ℕ) → v < nodes r → ((n ≤ parent r v) × (parent r v < nodes r)) ⊎ ((n ≤ v) × (parent r v ≡ rootMark)) = λ v l. stray-not n
+      (nodes r) v (parent r v) (first-nowhere _ 0 (nodes r) (h .1 .1 .1 .0) v zero-le l) in
       record {
         least = b .0;
         most = b .1;
@@ -108,7 +109,10 @@ module _ (n : ℕ) (r : List ℕ) where
   -- ---- number 9: "never" is for any number of steps, and every node below the place does come to the root
 
   pub judged-never : (p : ℕ) → judged n r ≡ refused 9 p → ((f : ℕ) → ends f r p ≡ false) × ((u : ℕ) → u < p → ends (nodes r) r u ≡ true)
-  judged-never p e = (λ f. not-yes _ (λ q. false≢true (sym (not-true _ (low .passes)) ∙ ends-enough r (nodes r) closed f p (low .to) q)), λ u h. not-false _ (low .none u zero-le h))
+  judged-never p e = (
+    λ f. not-yes _ (λ q. false≢true (sym (not-true _ (low .passes)) ∙ ends-enough r (nodes r) closed f p (low .to) q)),
+    λ u h. not-false _ (low .none u zero-le h),
+  )
     where
       w : Exactly 9 p (judgeChecks n r)
       w = judged-exactly 9 p .0 e
@@ -147,6 +151,7 @@ only-two r e = words r (judged-valid 2 r e)
         at-word (suc (suc (suc (suc i)))) h = absurd (omega (arith, ok .words))
 
 -- an m out of range is refused whatever the other words are
-pub nodes-refused : (n m : ℕ) (ws : List ℕ) → fewestSamples ≤ n → n ≤ mostSamples → length (m ∷ ws) ≡ rowWords n → outside (n + 1) (rowWords n - 1) m ≡ true → judged n (m ∷ ws) ≡ refused 5 0
+pub nodes-refused : (n m : ℕ) (ws : List ℕ) → fewestSamples ≤ n → n ≤ mostSamples → length (m ∷ ws) ≡ rowWords n
+    → outside (n + 1) (rowWords n - 1) m ≡ true → judged n (m ∷ ws) ≡ refused 5 0
 unfolding judged judgeChecks rowChecks _⊳_ nodes
 nodes-refused n m ws a b l e = rw (not-outside fewestSamples mostSamples n a b, eq-eqb (length (m ∷ ws)) (rowWords n) l, e)

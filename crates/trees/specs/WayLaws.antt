@@ -72,7 +72,9 @@ module _ (r : List ℕ) where
   below m in-m zero w v a h x = absurd (x (meets-zero w v a))
   below m in-m (suc f) w v a h x = go (met-to f w v a) (eqb (parent r v) w) refl (λ e q l. below m in-m f w (parent r v) q l e)
     where
-      go : Met f w v → (b : Bool) → eqb (parent r v) w ≡ b → ((parent r v ≡ w → ⊥) → meets f r w (parent r v) ≡ true → parent r v < m → (c : ℕ) × (c < m) × (parent r c ≡ w) × (meets f r c (parent r v) ≡ true))
+      go : Met f w v → (b : Bool) → eqb (parent r v) w ≡ b
+          → ((parent r v ≡ w → ⊥) → meets f r w (parent r v) ≡ true → parent r v < m → (c : ℕ) × (c < m) × (parent r c ≡ w) ×
+          (meets f r c (parent r v) ≡ true))
           → (c : ℕ) × (c < m) × (parent r c ≡ w) × (meets (suc f) r c v ≡ true)
       go (here e) b p k = absurd (x e)
       go (up e q) true p k = (v, h, eqb-true _ _ p, meets-refl (suc f) v)
@@ -83,7 +85,8 @@ module _ (r : List ℕ) where
   meets-line zero v w u a b = inl (rw (← meets-zero v u a) b)
   meets-line (suc f) v w u a b = go (met-to f v u a) (met-to f w u b) (λ p q. meets-line f v w (parent r u) p q)
     where
-      go : Met f v u → Met f w u → (meets f r v (parent r u) ≡ true → meets f r w (parent r u) ≡ true → (meets f r w v ≡ true) ⊎ (meets f r v w ≡ true)) → (meets (suc f) r w v ≡ true) ⊎ (meets (suc f) r v w ≡ true)
+      go : Met f v u → Met f w u → (meets f r v (parent r u) ≡ true → meets f r w (parent r u) ≡ true → (meets f r w v ≡ true) ⊎
+          (meets f r v w ≡ true)) → (meets (suc f) r w v ≡ true) ⊎ (meets (suc f) r v w ≡ true)
       go (here p) n k = inl (rw (← p) b)
       go (up p q) (here e) k = inr (rw (← e) a)
       go (up p q) (up s t) k = more (k q t)
@@ -125,7 +128,8 @@ module _ (r : List ℕ) where
   shorter zero c v (suc f) u m p n e = at-end c v f u (meets-zero c u m) p n e
   shorter (suc g) c v (suc f) u m p n e = go (met-to g c u m) (λ q k. shorter g c v f (parent r u) q p n k)
     where
-      go : Met g c u → (meets g r c (parent r u) ≡ true → ends f r (parent r u) ≡ true → (h : ℕ) × (h < f) × (ends h r v ≡ true)) → (h : ℕ) × (h < suc f) × (ends h r v ≡ true)
+      go : Met g c u → (meets g r c (parent r u) ≡ true → ends f r (parent r u) ≡ true → (h : ℕ) × (h < f) × (ends h r v ≡ true))
+          → (h : ℕ) × (h < suc f) × (ends h r v ≡ true)
       go (here q) k = at-end c v f u q p n e
       go (up d q) k = let t = k q (sym (ends-up f u d) ∙ e) in (t .0, omega arith, t .2)
 
@@ -138,7 +142,8 @@ module _ (r : List ℕ) where
   ends-more zero v e = absurd (false≢true e)
   ends-more (suc f) v e = go (or-cases (childOf r rootMark v) (ends f r (parent r v)) e) (λ q. ends-more f (parent r v) q)
     where
-      go : (childOf r rootMark v ≡ true) ⊎ (ends f r (parent r v) ≡ true) → (ends f r (parent r v) ≡ true → ends (suc f) r (parent r v) ≡ true) → ends (suc (suc f)) r v ≡ true
+      go : (childOf r rootMark v ≡ true) ⊎ (ends f r (parent r v) ≡ true) → (ends f r (parent r v) ≡ true → ends (suc f) r (parent r v) ≡ true)
+          → ends (suc (suc f)) r v ≡ true
       go (inl p) k = rw p
       go (inr p) k = or-r (childOf r rootMark v) (ends (suc f) r (parent r v)) (k p)
 
@@ -171,7 +176,9 @@ module _ (r : List ℕ) (m : ℕ) (closed : Closed m r) where
   progress zero = inr zero-le
   progress (suc f) = go (progress f) (eq-or-lt-of-le (grown f))
     where
-      go : Stable f ⊎ (f ≤ count (ends f r) (range 0 m)) → (count (ends f r) (range 0 m) ≡ count (ends (suc f) r) (range 0 m)) ⊎ (count (ends f r) (range 0 m) < count (ends (suc f) r) (range 0 m)) → Stable (suc f) ⊎ (suc f ≤ count (ends (suc f) r) (range 0 m))
+      go : Stable f ⊎ (f ≤ count (ends f r) (range 0 m))
+          → (count (ends f r) (range 0 m) ≡ count (ends (suc f) r) (range 0 m)) ⊎ (count (ends f r) (range 0 m) < count (ends (suc f) r) (range 0 m))
+          → Stable (suc f) ⊎ (suc f ≤ count (ends (suc f) r) (range 0 m))
       go (inl s) c = inl (stable-next f s)
       go (inr h) (inl e) = inl (stable-next f (level f (omega arith)))
       go (inr h) (inr l) = inr (omega arith)
