@@ -9,7 +9,7 @@ use native.Mathlib.Omega.{arith}
 use lib.Dec.{eqb}
 use lib.ListN.{length, length-replicate, getD-replicate}
 use lib.Seq.{ext-getD}
-use borrow.Author.Tests.{eqb-true, eqb-false, not-true}
+use borrow.Author.Tests.{eqb-true, eqb-false, not-true, eq-eqb}
 use Rattle.trees.specs.Groups.{Group, has, whole, single, size, lowest, within, apart, agree, conflict, same}
 use Rattle.trees.specs.BoolLaws.{and-l, and-r, and-both, or-cases, or-l, or-r, not-yes}
 use Rattle.trees.specs.ListLaws.{length-tabulate, getD-tabulate}
@@ -215,6 +215,12 @@ single-small n s = go (size (single n s)) refl
     go zero q = zero-le
     go (suc zero) q = omega arith
     go (suc (suc k)) q = let t = another (single n s) s (omega arith) in absurd (t .2 (single-has n s (t .0) (t .1)))
+
+pub single-own : (n s : ℕ) → s < n → has (single n s) s ≡ true
+single-own n s h = has-single n s s h ∙ eq-eqb s s refl
+
+pub lowest-single : (n s : ℕ) → s < n → lowest (single n s) ≡ s
+lowest-single n s h = single-has n s (lowest (single n s)) (lowest-has (single n s) (size-one (single n s) s (single-own n s h)))
 
 -- a group of one sample is that sample's
 pub size-single : (n : ℕ) (g : Group) → length g ≡ n → size g ≡ 1 → g ≡ single n (lowest g)

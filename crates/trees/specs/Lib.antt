@@ -6,6 +6,8 @@ pub mod Valid
 pub mod Numbering
 pub mod Comparing
 pub mod Reporting
+pub mod Outcomes
+pub mod RowCalls
 pub mod BoolLaws
 pub mod ListLaws
 pub mod ChainLaws
@@ -24,3 +26,5 @@ pub mod StandardLaws
 pub mod NumberingLaws
 pub mod ComparingLaws
 pub mod ReportingLaws
+pub mod OutcomeLaws
+pub mod RowCallLaws

@@ -2,7 +2,7 @@
 use Prim.Native.Nat.{ℕ, zero, suc, _+_, _-_, _≤_, _<_, suc-le-suc}
 use mathlib.Core.Path.{_≡_, refl, sym, ap, _∙_}
 use mathlib.Core.Logic.{_⊎_, inl, inr, ⊎-elim}
-use mathlib.Core.List.{List, [], _∷_, _++_}
+use mathlib.Core.List.{List, [], _∷_, _++_, List·Memᴰ, List·Memᴰ·head, List·Memᴰ·tail}
 use mathlib.Core.Bool.{Bool, true, false, _&&_, _||_, cond, false≢true, or-assoc, or-self-left}
 use native.Mathlib.Nat.{le-of-suc-le-suc, add-sub-of-le}
 use native.Mathlib.Omega.{arith}
@@ -50,6 +50,10 @@ at-in (h ∷ gs) g m = go (in-cases g h gs m) (λ r. at-in gs g r)
     go : (g ≡ h) ⊎ In g gs → (In g gs → (i : ℕ) × (i < length gs) × (nth gs i ≡ g)) → (i : ℕ) × (i < length (h ∷ gs)) × (nth (h ∷ gs) i ≡ g)
     go (inl e) f = (0, omega arith, sym e)
     go (inr r) f = (suc (f r .0), suc-le-suc (f r .1), f r .2)
+
+pub mem-in : (g : Group) (gs : List Group) → List·Memᴰ g gs → In g gs
+mem-in g (h ∷ gs) (List·Memᴰ·head e) = rw e (in-head h gs)
+mem-in g (h ∷ gs) (List·Memᴰ·tail m) = in-tail g h gs (mem-in g gs m)
 
 -- the members of a table are its values
 pub in-table : (k : ℕ) (f : ℕ → Group) (s : ℕ) (g : Group) → In g (tabulate k f s) → (v : ℕ) × (s ≤ v) × (v < s + k) × (f v ≡ g)
@@ -138,6 +142,27 @@ strict-filter p (g ∷ gs) s = go (p g) (strict-filter p gs (s .1))
     go : (a : Bool) → Strict (filter p gs) → Strict (cond a (g ∷ filter p gs) (filter p gs))
     go true r = (λ x m. s .0 x (and-r (p x) (member x gs) (sym (member-filter x p gs) ∙ m)), r)
     go false r = r
+
+pub strict-append : (gs hs : List Group) → Strict gs → Strict hs → ((g h : Group) → In g gs → In h hs → before g h ≡ true) → Strict (gs ++ hs)
+strict-append [] hs s t b = t
+strict-append (g ∷ gs) hs s t b = (
+  λ x m. go x (or-cases (member x gs) (member x hs) (sym (member-append x gs hs) ∙ m)),
+  strict-append gs hs (s .1) t
+      (λ x y m. b x y (in-tail x g gs m)),
+)
+  where
+    go : (x : Group) → In x gs ⊎ In x hs → before g x ≡ true
+    go x (inl m) = s .0 x m
+    go x (inr m) = b g x (in-head g gs) m
+
+-- a table whose values rise is in strict order
+pub strict-table : (k : ℕ) (f : ℕ → Group) (s : ℕ) → ((v w : ℕ) → s ≤ v → v < w → w < s + k → before (f v) (f w) ≡ true) → Strict (tabulate k f s)
+unfolding tabulate
+strict-table zero f s b = tt
+strict-table (suc k) f s b = (
+  λ x m. let t = in-table k f (suc s) x m in rw (← (t .3)) (b s (t .0) (omega arith) (t .1) (omega arith)),
+  strict-table k f (suc s) (λ v w h l i. b v w (omega arith) l (omega arith)),
+)
 
 -- a group comes before each later one
 pub strict-at : (gs : List Group) → Strict gs → (i j : ℕ) → j < i → i < length gs → before (nth gs j) (nth gs i) ≡ true

@@ -80,6 +80,9 @@ unfolding before
 before-from g h (larger p) = rw (lt-ltb _ _ p)
 before-from g h (level p q) = or-r (ltb (size h) (size g)) (eqb (size g) (size h) && listFirst g h) (rw (eq-eqb _ _ p) q)
 
+pub before-larger : (g h : Group) → size h < size g → before g h ≡ true
+before-larger g h p = before-from g h (larger p)
+
 pub before-irrefl : (g : Group) → before g g ≡ true → ⊥
 before-irrefl g e = elim (before-to g g e) [ larger p ↦ omega arith | level p q ↦ false≢true (sym (list-irrefl g) ∙ q) ]
 

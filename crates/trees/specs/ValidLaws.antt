@@ -22,7 +22,7 @@ use Rattle.trees.specs.WayLaws.{Closed, ends-enough}
 -- ---- acceptance is validity
 
 module _ (n : ℕ) (r : List ℕ) where
-  passed-valid : Passed (judgeChecks n r) → Valid n r
+  pub passed-valid : Passed (judgeChecks n r) → Valid n r
   unfolding judgeChecks rowChecks
   passed-valid h =
       let b = outside-not fewestSamples mostSamples n (line-passes 1 (outside fewestSamples mostSamples n) (h .0)) in
@@ -44,7 +44,7 @@ module _ (n : ℕ) (r : List ℕ) where
         two = λ v a l. ltb-false _ _ (first-nowhere _ n (nodes r) (h .1 .1 .1 .1 .1 .1 .1 .0) v a l);
       }
 
-  valid-passed : Valid n r → Passed (judgeChecks n r)
+  pub valid-passed : Valid n r → Passed (judgeChecks n r)
   unfolding judgeChecks rowChecks
   valid-passed ok = (
     rw (not-outside fewestSamples mostSamples n (ok .least) (ok .most)),
