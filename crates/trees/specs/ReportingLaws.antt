@@ -60,7 +60,7 @@ pub shown-member : (rule : Rule) (n : ℕ) (rs : List Run) (g : Group) → membe
 unfolding shown
 shown-member rule n rs g = rw (member-filter, member-ordered)
 
-shown-strict : (rule : Rule) (n : ℕ) (rs : List Run) → Strict (shown rule n rs)
+pub shown-strict : (rule : Rule) (n : ℕ) (rs : List Run) → Strict (shown rule n rs)
 unfolding shown
 shown-strict rule n rs = strict-filter (rule n rs) (ordered (held n rs)) (strict-ordered (held n rs))
 
