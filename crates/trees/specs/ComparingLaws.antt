@@ -1,9 +1,9 @@
 -- The counts of comparing: the shared groups are the same from either side, with those that stand alone they make the whole set, and of
 -- standard rows they are counted over the inner nodes. Assumes nothing.
-use Prim.Native.Nat.{ℕ, zero, suc, _+_, _-_, _≤_, _<_}
+use Prim.Native.Nat.{ℕ, zero, suc, _+_, _-_, _<_}
 use mathlib.Core.Path.{_≡_, refl, sym, ap, _∙_}
 use mathlib.Core.List.{List, [], _∷_, _++_, List·Memᴰ}
-use mathlib.Core.Bool.{Bool, true, false, not, cond, and-comm, or-comm, or-false}
+use mathlib.Core.Bool.{Bool, true, false, not, cond, and-comm, or-comm}
 use native.Mathlib.Omega.{arith}
 use lib.ListN.{length, length-append}
 use borrow.Author.Tests.{lt-ltb}
@@ -11,16 +11,16 @@ use native.Mathlib.Nat.{le-antisymm}
 use Rattle.trees.specs.Lists.{tabulate, range, filter, weigh, count}
 use Rattle.trees.specs.Groups.{Group, single, size, before, member}
 use Rattle.trees.specs.Valid.{Valid, In, Strict, Standard}
-use Rattle.trees.specs.Rows.{nodes, groupAt, groups, inner}
+use Rattle.trees.specs.Rows.{nodes, groupAt, groups, inner, holds}
 use Rattle.trees.specs.Numbering.{ordered, groupSet, renumbered}
 use Rattle.trees.specs.Comparing.{shared, alone, compared}
-use Rattle.trees.specs.BoolLaws.{not-yes, or-r}
-use Rattle.trees.specs.ListLaws.{length-tabulate, in-range, weigh-mono, weigh-append, count-all}
+use Rattle.trees.specs.BoolLaws.{not-yes}
+use Rattle.trees.specs.ListLaws.{length-tabulate, weigh-mono, weigh-append, count-all}
 use Rattle.trees.specs.GroupLaws.{aside, size-one, single-own, single-has, single-small, lowest-single}
 use Rattle.trees.specs.OrderLaws.{before-larger, before-falling}
 use Rattle.trees.specs.MemberLaws.{mem-in, member-append, member-filter, in-table, strict-ordered, strict-filter, strict-append, strict-table, strict-unique, ordered-same}
 use Rattle.trees.specs.RowLaws.{length-inner, in-inner, inner-two, groups-split}
-use Rattle.trees.specs.NumberingLaws.{member-set, renumbered-groups}
+use Rattle.trees.specs.NumberingLaws.{member-set, renumbered-groups, row-tree}
 
 count-filter : (t : Group → Bool) (gs : List Group) → count t gs ≡ length (filter t gs)
 unfolding weigh filter
@@ -100,32 +100,20 @@ unfolding weigh tabulate
 count-tabulate t zero f s = refl
 count-tabulate t (suc k) f s = ap (λ (c : ℕ). cond (t (f s)) 1 0 + c) (count-tabulate t k f (suc s))
 
-count-same : (p q : ℕ → Bool) (xs : List ℕ) → ((x : ℕ) → List·Memᴰ x xs → p x ≡ q x) → count p xs ≡ count q xs
-count-same p q xs h = le-antisymm (weigh-mono (λ x. 1) p q xs (λ x m e. sym (h x m) ∙ e)) (weigh-mono (λ x. 1) q p xs (λ x m e. h x m ∙ e))
+count-same : {A : Type 0} (p q : A → Bool) (xs : List A) → ((x : A) → p x ≡ q x) → count p xs ≡ count q xs
+count-same p q xs h = le-antisymm (weigh-mono (λ x. 1) p q xs (λ x m e. sym (h x) ∙ e)) (weigh-mono (λ x. 1) q p xs (λ x m e. h x ∙ e))
 
-no-single : (n : ℕ) (g : Group) → 2 ≤ size g → member g (tabulate n (single n) 0) ≡ false
-no-single n g z = not-yes _ (λ m. let u = in-table n (single n) 0 g m in omega (arith, single-small n (u .0), ap size (u .3)))
-
--- all single samples are shared, and the inner nodes whose group is the other row's
-pub shared-standard : (n : ℕ) (r q : List ℕ) → Standard n r → Standard n q
-    → shared n r q ≡ count (λ v. member (groupAt n r v) (inner n q)) (range n (nodes r)) + n
+-- all single samples are shared, and the inner nodes whose group the other row holds
+pub shared-standard : (n : ℕ) (r q : List ℕ) → Standard n r → Standard n q → shared n r q ≡ count (λ v. holds n (groupAt n r v) q) (range n (nodes r)) + n
 unfolding inner
 shared-standard n r q a b =
-    ap (count t) (set-standard n r a) ∙ weigh-append (λ g. 1) t (inner n r) (tabulate n (single n) 0)
-    ∙ (rw (
-      count-tabulate t (nodes r - n) (groupAt n r) n ∙ count-same _ _ (range n (nodes r)) nodes-same,
-      count-all t
-          (tabulate n (single n) 0) all-single ∙ length-tabulate n (single n) 0,
-    ) refl)
+    count-same (λ g. member g (groupSet n q)) t (groupSet n r) (member-set n q (b .valid))
+    ∙ ap (count t) (set-standard n r a) ∙ weigh-append (λ g. 1) t (inner n r) (tabulate n (single n) 0)
+    ∙ (rw (count-tabulate t (nodes r - n) (groupAt n r) n, count-all t (tabulate n (single n) 0) all-single ∙ length-tabulate n (single n) 0) refl)
   where
     t : Group → Bool
-    t g = member g (groupSet n q)
-
-    nodes-same : (v : ℕ) → List·Memᴰ v (range n (nodes r)) → t (groupAt n r v) ≡ member (groupAt n r v) (inner n q)
-    nodes-same v m = let h = in-range n (nodes r) v m in
-        ap (member (groupAt n r v)) (set-standard n q b) ∙ member-append (groupAt n r v) (inner n q) (tabulate n (single n) 0)
-        ∙ (rw (no-single n (groupAt n r v) (inner-two n r (a .valid) v (h .0) (h .1))) (or-false (member (groupAt n r v) (inner n q))))
+    t g = holds n g q
 
     all-single : (g : Group) → List·Memᴰ g (tabulate n (single n) 0) → t g ≡ true
-    all-single g m = ap (member g) (set-standard n q b) ∙ member-append g (inner n q) (tabulate n (single n) 0)
-        ∙ or-r (member g (inner n q)) _ (mem-in g (tabulate n (single n) 0) m)
+    all-single g m = let u = in-table n (single n) 0 g (mem-in g (tabulate n (single n) 0) m) in
+        rw (← (u .3)) (row-tree n q (b .valid) .leaf (u .0) (omega arith))
