@@ -1,0 +1,72 @@
+-- What opening, adding and withdrawing answer, and the words they leave.
+use Prim.Native.Nat.{ℕ}
+use mathlib.Core.List.{List, [], _∷_, _++_}
+use mathlib.Core.Bool.{not}
+use lib.Dec.{eqb, ltb}
+use lib.ListN.{length}
+use Rattle.trees.specs.Checks.{Check, line, check1, check3, rowChecks}
+use Rattle.trees.specs.Numbering.{renumbered}
+use Rattle.trees.specs.Reporting.{Run}
+use Rattle.trees.specs.Outcomes.{Outcome, outcome}
+use Rattle.runs.specs.Runs.{present, insertRun, deleteRun}
+use Rattle.runs.specs.Words.{samples, inForce, runs, encode, capacity}
+use Rattle.runs.specs.Formed.{wellFormed}
+
+-- "the study handed in is not well formed"
+abbrev pub check2 : List ℕ → Check
+check2 w = line 2 (not (wellFormed w))
+
+-- "at opening, capacity is below 1"
+abbrev pub check3Open : ℕ → List ℕ → Check
+check3Open n w = line 3 (ltb (capacity (length w) n) 1)
+
+-- "identifier 0"
+abbrev pub check4 : ℕ → Check
+check4 i = line 4 (eqb i 0)
+
+-- "add: identifier already in force"
+abbrev pub check11 : List ℕ → ℕ → Check
+check11 w i = line 11 (present i (runs w))
+
+-- "add: k equals capacity"
+abbrev pub check12 : List ℕ → Check
+check12 w = line 12 (eqb (inForce w) (capacity (length w) (samples w)))
+
+-- "withdraw: identifier not in force"
+abbrev pub check13 : List ℕ → ℕ → Check
+check13 w i = line 13 (not (present i (runs w)))
+
+unfoldable pub openChecks : ℕ → List ℕ → List Check
+openChecks n w = check1 n ∷ check3Open n w ∷ []
+
+-- "Opening needs capacity 1 and leaves k = 0." It "takes a buffer with any words".
+unfoldable pub opened : ℕ → List ℕ → Outcome
+opened n w = outcome (openChecks n w) w (encode (length w) n [])
+
+-- the checks of adding to a study that is known to be well formed, and to any
+unfoldable pub addFormedChecks : List ℕ → ℕ → List ℕ → List Check
+addFormedChecks w i row = check3 (samples w) row ∷ check4 i ∷ (rowChecks (samples w) row ++ (check11 w i ∷ check12 w ∷ []))
+
+unfoldable pub addChecks : List ℕ → ℕ → List ℕ → List Check
+addChecks w i row = check2 w ∷ addFormedChecks w i row
+
+-- "Renumbering writes this row; stored and reported rows have this form."
+abbrev pub stores : ℕ → ℕ → List ℕ → Run
+stores n i row = record { identifier = i; row = renumbered n row }
+
+-- the runs in force after an accepted add
+abbrev pub runsWith : List ℕ → ℕ → List ℕ → List Run
+runsWith w i row = insertRun (stores (samples w) i row) (runs w)
+
+unfoldable pub added : List ℕ → ℕ → List ℕ → Outcome
+added w i row = outcome (addChecks w i row) w (encode (length w) (samples w) (runsWith w i row))
+
+-- the checks of withdrawing from a study that is known to be well formed, and from any
+unfoldable pub withdrawFormedChecks : List ℕ → ℕ → List Check
+withdrawFormedChecks w i = check4 i ∷ check13 w i ∷ []
+
+unfoldable pub withdrawChecks : List ℕ → ℕ → List Check
+withdrawChecks w i = check2 w ∷ withdrawFormedChecks w i
+
+unfoldable pub withdrawn : List ℕ → ℕ → Outcome
+withdrawn w i = outcome (withdrawChecks w i) w (encode (length w) (samples w) (deleteRun i (runs w)))

@@ -1,0 +1,59 @@
+-- When a study is well formed: the test, and what it means.
+use Prim.Native.Nat.{ℕ, _≤_, _<_}
+use mathlib.Core.Path.{_≡_}
+use mathlib.Core.List.{List, [], _∷_, List·Memᴰ}
+use mathlib.Core.Bool.{Bool, true, false, _&&_, not}
+use lib.Dec.{eqb, leb}
+use lib.ListN.{length, take, drop}
+use Rattle.trees.specs.Checks.{fewestSamples, mostSamples, outside}
+use Rattle.trees.specs.Valid.{Standard, standard}
+use Rattle.trees.specs.Reporting.{Run}
+use Rattle.runs.specs.Runs.{every, rising}
+use Rattle.runs.specs.Words.{header, samples, inForce, headerWords, slotStart, runs, encode, mostIdentifier, capacity}
+
+unfoldable pub sameWords : List ℕ → List ℕ → Bool
+sameWords [] [] = true
+sameWords [] (y ∷ ys) = false
+sameWords (x ∷ xs) [] = false
+sameWords (x ∷ xs) (y ∷ ys) = eqb x y && sameWords xs ys
+
+-- mark, version, n, k and two zeros
+abbrev pub headed : List ℕ → Bool
+headed w = sameWords (take headerWords w) (header (samples w) (inForce w))
+
+-- "n, k .. are within the sizes above", "capacity is at least 1 and at least k"
+abbrev pub sized : List ℕ → Bool
+sized w = not (outside fewestSamples mostSamples (samples w)) && leb 1 (capacity (length w) (samples w)) && leb (inForce w) (capacity (length w) (samples w))
+
+-- the identifier is "within the sizes above" (that it is not 0 is in `rising`), "the row in standard numbering"
+abbrev pub isStored : ℕ → Run → Bool
+isStored n run = leb (run .identifier) mostIdentifier && standard n (run .row)
+
+-- "All later words are 0."
+abbrev pub zeroFrom : ℕ → List ℕ → Bool
+zeroFrom p w = every (λ x. eqb x 0) (drop p w)
+
+-- "A study is well formed exactly if all this holds, n, k and the identifiers are within the sizes above, no identifier
+-- stands twice, capacity is at least 1 and at least k, and each row is valid."
+unfoldable pub wellFormed : List ℕ → Bool
+wellFormed w = headed w && sized w && rising 0 (runs w) && every (isStored (samples w)) (runs w) && zeroFrom (slotStart (samples w) (inForce w)) w
+
+-- each identifier above the one before it, the first above b
+abbrev pub Rising : ℕ → List Run → Type 0
+Rising b [] = Unit {0}
+Rising b (r ∷ rs) = (b < r .identifier) × Rising (r .identifier) rs
+
+-- a run as it is stored
+pub record Stored (n : ℕ) (run : Run) : Type 0 where
+  pub word : run .identifier ≤ mostIdentifier
+  pub standard : Standard n (run .row)
+
+-- A well-formed study (`formed-to`, `formed-from`): its words are those of its runs, and no others.
+pub record Formed (w : List ℕ) : Type 0 where
+  pub least : fewestSamples ≤ samples w
+  pub most : samples w ≤ mostSamples
+  pub one : 1 ≤ capacity (length w) (samples w)
+  pub fits : inForce w ≤ capacity (length w) (samples w)
+  pub rises : Rising 0 (runs w)
+  pub stored : (run : Run) → List·Memᴰ run (runs w) → Stored (samples w) run
+  pub exact : w ≡ encode (length w) (samples w) (runs w)

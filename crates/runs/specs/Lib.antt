@@ -1,0 +1,17 @@
+pub mod Runs
+pub mod Words
+pub mod Formed
+pub mod Calls
+pub mod Histories
+pub mod Moves
+pub mod RunLaws
+pub mod WordLaws
+pub mod FormedLaws
+pub mod CallLaws
+pub mod AddLaws
+pub mod WithdrawLaws
+pub mod HistoryLaws
+pub mod FreshLaws
+pub mod MoveLaws
+pub mod Reports
+pub mod ReportLaws

@@ -1,0 +1,129 @@
+-- Demands 1 and 2 of reporting: each number exactly when its line applies, and exactly the majority groups with their exact supports. Assumes nothing.
+use Prim.Native.Nat.{ℕ, zero, suc, _+_, _*_, _≤_, _<_}
+use mathlib.Core.Path.{_≡_, refl, ap, _∙_}
+use mathlib.Core.Logic.{_↔_}
+use mathlib.Core.List.{List, [], _∷_, List·Memᴰ·head}
+use mathlib.Core.Bool.{Bool, true, false, cond}
+use native.Mathlib.Omega.{arith}
+use lib.Dec.{eqb, ltb}
+use lib.ListN.{length, getD}
+use borrow.Author.Tests.{eqb-false, not-false}
+use Rattle.trees.specs.Lists.{weigh}
+use Rattle.trees.specs.Groups.{Group, member}
+use Rattle.trees.specs.Rows.{nodes, groupAt, groups, holds}
+use Rattle.trees.specs.Checks.{Verdict, accepted, refused, rowWords}
+use Rattle.trees.specs.Valid.{Standard, isAccepted}
+use Rattle.trees.specs.Reporting.{Run, Rule, majority, support, agreed, supports}
+use Rattle.trees.specs.ListLaws.{length-tabulate}
+use Rattle.trees.specs.ChainLaws.{isRising, Exactly, refused-exactly, chain-passed, line-passes}
+use Rattle.trees.specs.NumberingLaws.{standard-unique}
+use Rattle.trees.specs.ReportingLaws.{Runs, Sound, total-length, majority-sound, majority-standard, majority-groups, majority-supports, supports-length, supports-first, supports-node, supports-filler}
+use Rattle.runs.specs.Words.{samples, inForce, runs, runAt}
+use Rattle.runs.specs.Formed.{wellFormed, Formed}
+use Rattle.runs.specs.FormedLaws.{formed-to}
+use Rattle.runs.specs.Reports.{reportFormedChecks, reportChecks, reported}
+
+-- as many runs are read off as the header says
+pub length-runs : (w : List ℕ) → length (runs w) ≡ inForce w
+unfolding runs
+length-runs w = length-tabulate (inForce w) (runAt (samples w) w) 0
+
+module _ (rule : Rule) (w a s : List ℕ) where
+  -- DEMAND 1: a number is given exactly when its line applies and no line of a smaller number does
+  pub reported-exactly : (k p : ℕ) → (reported rule w a s .verdict ≡ refused k p) ↔ Exactly k p (reportChecks w a s)
+  unfolding reported reportChecks reportFormedChecks isRising
+  reported-exactly k p = refused-exactly (reportChecks w a s) accepted k p refl (λ e. let z : _≡_ {A = ℕ} 0 1 = cc in omega arith)
+
+  -- and neither buffer differs then
+  pub reported-refused : (k p : ℕ) → reported rule w a s .verdict ≡ refused k p → (reported rule w a s .agreedRow ≡ a) × (reported rule w a s .supportRow ≡ s)
+  unfolding reported
+  reported-refused k p e = (
+    ap (λ (v : Verdict). cond (isAccepted v) (agreed rule (samples w) (runs w)) a) e,
+    ap
+        (λ (v : Verdict). cond (isAccepted v) (supports rule (samples w) (runs w)) s) e,
+  )
+
+  -- an accepted report leaves the agreed row and the support row of the runs in force
+  pub reported-rows : reported rule w a s .verdict ≡ accepted
+      → (reported rule w a s .agreedRow ≡ agreed rule (samples w) (runs w)) × (reported rule w a s .supportRow ≡ supports rule (samples w) (runs w))
+  unfolding reported
+  reported-rows e = (
+    ap (λ (v : Verdict). cond (isAccepted v) (agreed rule (samples w) (runs w)) a) e,
+    ap
+        (λ (v : Verdict). cond (isAccepted v) (supports rule (samples w) (runs w)) s) e,
+  )
+
+  -- then the study is well formed, and has a run in force
+  pub reported-formed : reported rule w a s .verdict ≡ accepted → Formed w × (0 < inForce w)
+  unfolding reported reportChecks reportFormedChecks
+  reported-formed e =
+      let h = chain-passed (reportChecks w a s) e in
+      let none = eqb-false (inForce w) 0 (line-passes 14 (eqb (inForce w) 0) (h .1 .1 .0)) in
+      (formed-to w (not-false (wellFormed w) (line-passes 2 _ (h .0))), some (inForce w) none)
+    where
+      some : (k : ℕ) → (k ≡ 0 → ⊥) → 0 < k
+      some zero x = absurd (x refl)
+      some (suc k) x = omega arith
+
+formed-runs : (w : List ℕ) → Formed w → Runs (samples w) (runs w)
+formed-runs w ok run m = ok .stored run m .standard .valid
+
+-- ---- DEMAND 2, of what an accepted report leaves
+
+module _ (w a s : List ℕ) (e : reported majority w a s .verdict ≡ accepted) where
+  abbrev n : ℕ
+  n = samples w
+
+  ok : Runs n (runs w)
+  ok = formed-runs w (reported-formed majority w a s e .0)
+
+  some : 0 < length (runs w)
+  some = rw (length-runs w) (reported-formed majority w a s e .1)
+
+  row : reported majority w a s .agreedRow ≡ agreed majority n (runs w)
+  row = reported-rows majority w a s e .0
+
+  words : reported majority w a s .supportRow ≡ supports majority n (runs w)
+  words = reported-rows majority w a s e .1
+
+  sound : Sound majority n (runs w)
+  sound = majority-sound n (runs w) ok some
+
+  -- the agreed row is standard
+  pub reported-standard : Standard (samples w) (reported majority w a s .agreedRow)
+  reported-standard = rw row (majority-standard n (runs w) ok some)
+
+  -- none missing, none added: any group whatever is one of its groups exactly when twice its support exceeds k
+  pub reported-groups : (g : Group) → member g (groups (samples w) (reported majority w a s .agreedRow)) ≡ ltb (inForce w) (2 * support (samples w) (runs w) g)
+  reported-groups g = rw (row, ← length-runs w) (majority-groups n (runs w) ok some g)
+
+  -- each shown support is the exact number, more than half of k, and at most k
+  pub reported-support : (v : ℕ) → v < nodes (reported majority w a s .agreedRow)
+      → getD (reported majority w a s .supportRow) (suc v) 0 ≡ support (samples w) (runs w) (groupAt (samples w) (reported majority w a s .agreedRow) v)
+  reported-support v h = rw (words, row) (supports-node majority n (runs w) ok some sound v (rw row at h))
+
+  pub reported-bounds : (v : ℕ) → v < nodes (reported majority w a s .agreedRow)
+      → (inForce w < 2 * getD (reported majority w a s .supportRow) (suc v) 0) × (getD (reported majority w a s .supportRow) (suc v) 0 ≤ inForce w)
+  reported-bounds v h = rw (reported-support v h, row, ← length-runs w) (majority-supports n (runs w) ok some v (rw row at h))
+
+  -- word 0 is k, filler is 0, and there are 2n words
+  pub reported-first : getD (reported majority w a s .supportRow) 0 0 ≡ inForce w
+  reported-first = rw words (supports-first majority n (runs w) ok some sound ∙ total-length (runs w) ∙ length-runs w)
+
+  pub reported-filler : (i : ℕ) → nodes (reported majority w a s .agreedRow) < i → getD (reported majority w a s .supportRow) i 0 ≡ 0
+  reported-filler i h = rw words (supports-filler majority n (runs w) ok some sound i (rw row at h))
+
+  pub reported-length : length (reported majority w a s .supportRow) ≡ rowWords (samples w)
+  reported-length = rw words (supports-length majority n (runs w) ok some sound)
+
+-- "With k = 1 the run itself is reported."
+pub reported-one : (w a s : List ℕ) (run : Run) → reported majority w a s .verdict ≡ accepted → runs w ≡ run ∷ []
+    → reported majority w a s .agreedRow ≡ run .row
+unfolding support weigh
+reported-one w a s run e q = standard-unique (samples w) (reported majority w a s .agreedRow) (run .row) (reported-standard w a s e)
+    (reported-formed majority w a s e .0 .stored run (rw q (List·Memᴰ·head refl)) .standard)
+    (λ x. reported-groups w a s e x ∙ (rw (← length-runs w, q) (go (holds (samples w) x (run .row)))))
+  where
+    go : (b : Bool) → ltb 1 (2 * (cond b 1 0 + 0)) ≡ b
+    go true = refl
+    go false = refl

@@ -1,0 +1,39 @@
+-- What reporting answers, and the two rows that it leaves.
+use Prim.Native.Nat.{ℕ}
+use mathlib.Core.List.{List, [], _∷_}
+use mathlib.Core.Bool.{cond}
+use lib.Dec.{eqb}
+use Rattle.trees.specs.Checks.{Verdict, accepted, Check, line, _⊳_}
+use Rattle.trees.specs.Valid.{isAccepted}
+use Rattle.trees.specs.RowCalls.{check3Both}
+use Rattle.trees.specs.Reporting.{Rule, agreed, supports}
+use Rattle.runs.specs.Words.{samples, inForce, runs}
+use Rattle.runs.specs.Calls.{check2}
+
+-- what a report answers, and its two buffers after it
+pub record Report : Type 0 where
+  pub verdict : Verdict
+  pub agreedRow : List ℕ
+  pub supportRow : List ℕ
+
+-- "report: k is 0"
+abbrev pub check14 : List ℕ → Check
+check14 w = line 14 (eqb (inForce w) 0)
+
+-- the checks of reporting on a study that is known to be well formed, and on any
+unfoldable pub reportFormedChecks : List ℕ → List ℕ → List ℕ → List Check
+reportFormedChecks w a s = check3Both (samples w) a s ∷ check14 w ∷ []
+
+unfoldable pub reportChecks : List ℕ → List ℕ → List ℕ → List Check
+reportChecks w a s = check2 w ∷ reportFormedChecks w a s
+
+-- "The report writes two buffers of 2n words: the agreed row, and the support row."
+-- "After a refusal all lent words are unchanged."
+unfoldable pub reported : Rule → List ℕ → List ℕ → List ℕ → Report
+reported rule w a s =
+    let yes = isAccepted (reportChecks w a s ⊳ accepted) in
+    record {
+      verdict = reportChecks w a s ⊳ accepted;
+      agreedRow = cond yes (agreed rule (samples w) (runs w)) a;
+      supportRow = cond yes (supports rule (samples w) (runs w)) s;
+    }
