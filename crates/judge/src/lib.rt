@@ -5,6 +5,7 @@ ghost use lib.ListN.{length};
 ghost use Rattle.trees.specs.Lists.{range, count};
 ghost use Rattle.trees.specs.Rows.{nodes, parent, childOf, ends};
 ghost use Rattle.trees.specs.Checks.{accepted, _⊳_, asked, line, stray, fewestSamples, mostSamples, rowWords, check1, check3, check5, check6, check7, check8, check9, check10, rowChecks, judged};
+ghost use Rattle.trees.specs.RowCalls.{check3Both};
 ghost use Rattle.trees.specs.WayLaws.{Closed};
 ghost use Rattle.judge.specs.Verdicts.{verdict};
 
@@ -47,8 +48,8 @@ pub const ROOT_MARK: usize = 65535;
 const FEWEST_CHILDREN: usize = 2;
 
 // A word as a count or an index.
-fn wide(x: u16) -> usize
-    ensures { λ r. ⌜ r ≡ x ⌝ }
+pub fn wide(x: u16) -> usize
+    ensures { λ r. ⌜ (r ≡ x) × (r < 65536) ⌝ }
 {
     x as usize
 }
@@ -80,7 +81,7 @@ fn line(number: usize, applies: bool) -> Answer
 }
 
 // Check 1: "n outside 2 to 512".
-fn samples(n: usize) -> Answer
+pub fn samples(n: usize) -> Answer
     ensures { λ r. ⌜ verdict r ≡ asked (check1 n) ⌝ }
 {
     line(Refusal::SAMPLES, (n < FEWEST_SAMPLES) | (MOST_SAMPLES < n))
@@ -92,6 +93,17 @@ fn words(n: usize, row: &[u16]) -> Answer
     ensures { λ r. ⌜ verdict r ≡ asked (check3 n (now (row .entry))) ⌝ }
 {
     line(Refusal::WORDS, row.len() != 2 * n)
+}
+
+// Check 3 of two buffers: "a row or output buffer is not 2n words".
+pub fn words_both(n: usize, first: &[u16], second: &[u16]) -> Answer
+    requires { ⌜ n ≤ mostSamples ⌝ }
+    ensures { λ r. ⌜ verdict r ≡ asked (check3Both n (now (first .entry)) (now (second .entry))) ⌝ }
+{
+    line(
+        Refusal::WORDS,
+        (first.len() != 2 * n) | (second.len() != 2 * n),
+    )
 }
 
 // Check 5: "m outside n+1 to 2n-1".

@@ -18,23 +18,10 @@ use Rattle.trees.specs.Valid.{Valid, Standard}
 use Rattle.trees.specs.Numbering.{lastWith, rowOf}
 use Rattle.trees.specs.BoolLaws.{or-r, decide}
 use Rattle.trees.specs.ListLaws.{tabulate-eq, range-cons, in-range, weigh-none}
+use Rattle.trees.specs.NeverLaws.{Tri, less, equal, more, tri}
 use Rattle.trees.specs.MemberLaws.{nth, in-at}
 use Rattle.trees.specs.RowOfLaws.{last-suc, nodes-row, length-row, filler-row, parent-leaf, parent-inner}
 use Rattle.trees.specs.FamilyLaws.{Family, Nested, Parents, two, nested, some, root, leaf-range, inner-range, two-children, fewer}
-
--- i is below, at or above j
-data Tri (i j : ℕ) : Type 0 where
-  less : i < j → Tri i j
-  equal : i ≡ j → Tri i j
-  more : j < i → Tri i j
-
-tri : (i j : ℕ) → Tri i j
-tri i j = go (ltb i j) refl (ltb j i) refl
-  where
-    go : (a : Bool) → ltb i j ≡ a → (b : Bool) → ltb j i ≡ b → Tri i j
-    go true p b q = less (ltb-true i j p)
-    go false p true q = more (ltb-true j i q)
-    go false p false q = equal (omega (arith, ltb-false))
 
 -- ---- climbing in the row of nested groups
 

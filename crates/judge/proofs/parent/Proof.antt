@@ -19,7 +19,7 @@ wide-requires c κs = search needs
 
 returns : tie.Need-returns
 unfolding parent
-returns c = rw (← add-one) (c .wide .ensures)
+returns c = rw (← add-one) (c .wide .ensures .0)
 
 pub parent-spec : {M : Type 1} → statement M
 parent-spec = tie.close (tie.spec add-wide mul-wide shared-slice-read-wide wide-requires returns)

@@ -1,0 +1,74 @@
+-- `passes::mating::ends` meets its contract: the table is filled up to s. Assumes nothing.
+use Rattle.trees.specs.Tables.{Tabled, tableWords, entry}
+use Rattle.trees.specs.TableLaws.{tabled-more, tabled-none}
+use Rattle.trees.specs.Mates.{fromEnd}
+use denote.Ref.{now}
+use lib.ListN.{length, length-set}
+use native.Mathlib.Omega.{arith}
+use mathlib.Core.Path.{_≡_}
+use Prim.Native.Nat.{_≤_, _-_}
+use borrow.Author.Needs.{needs}
+use Rattle.passes.proofs.mating.ends.Statement.{statement}
+use Rattle.passes.proofs.mating.ends.Tie as tie
+
+abbrev Inv-loop : tie.InvT-loop
+Inv-loop n start t₀ s₀ t s = (s ≤ n) × (length t ≡ tableWords) × Tabled (fromEnd n (entry start)) 0 s t
+
+abbrev μ-loop : tie.MeasureT-loop
+μ-loop n start t₀ s₀ t s = n - s
+
+loop-holds : tie.Need-loop-holds Inv-loop μ-loop
+loop-holds c = let st : tie.Start Inv-loop μ-loop = search needs in (omega arith, st .pre .2, tabled-none _ 0 _)
+
+mul-from-end : tie.Need-mul-from-end Inv-loop μ-loop
+mul-from-end c = omega arith
+
+element-copy-out-from-end : tie.Need-element-copy-out-from-end Inv-loop μ-loop
+element-copy-out-from-end c = omega arith
+
+from-end-requires : tie.Need-from-end-requires Inv-loop μ-loop
+from-end-requires c κs = let l : tie.At-loop Inv-loop μ-loop = search needs in (omega arith, l .before .pre .1 .low (l .loop .s) (omega arith))
+
+mul-t : tie.Need-mul-t Inv-loop μ-loop
+mul-t c = omega arith
+
+element-write-t : tie.Need-element-write-t Inv-loop μ-loop
+element-write-t c = omega arith
+
+add-s : tie.Need-add-s Inv-loop μ-loop
+add-s c = omega arith
+
+loop-less : tie.Need-loop-less Inv-loop μ-loop
+loop-less c = omega arith
+
+loop-again : tie.Need-loop-again Inv-loop μ-loop
+loop-again c =
+    let l : tie.At-loop Inv-loop μ-loop = search needs in (
+      omega arith,
+      simp length-set (l .loop .inv .1),
+      tabled-more (fromEnd (l .before .args .n) (entry (now (l .before .args .start)))) 0 (l .loop .s) _
+          (l .loop .t) (l .loop .inv .2) (omega arith) (c .from-end .ensures),
+    )
+
+returns : tie.Need-returns Inv-loop μ-loop
+returns c =
+    let l : tie.At-loop Inv-loop μ-loop = search needs in
+    let e : l .loop .s ≡ l .before .args .n = omega arith in
+    rw e at (l .loop .inv .2)
+
+pub ends-spec : {M : Type 1} → statement M
+ends-spec =
+    tie.close
+    (tie.spec
+    Inv-loop
+    μ-loop
+    loop-holds
+    mul-from-end
+    element-copy-out-from-end
+    from-end-requires
+    mul-t
+    element-write-t
+    add-s
+    loop-less
+    loop-again
+    returns)
