@@ -1,4 +1,4 @@
-"""Calls as replay takes them, the answers the rules give, and the calls to be stored.
+"""Calls as replay takes them, and the answers the rules give.
 
 A request is `op x y la lb lc` and the words of up to three buffers; a reply is
 `number place-low place-high c1 c2 c3` and the buffers as they stand after the
@@ -9,13 +9,10 @@ from __future__ import annotations
 
 import struct
 from collections import Counter
-from itertools import product
-from random import Random
 from typing import Callable, Iterator, NamedTuple
 
 import rules
-import shapes
-from rules import ROOT, Answer, Words
+from rules import Answer, Words
 
 OPEN, ADD, WITHDRAW, REPORT, JUDGE, RENUMBER, COMPARE = range(1, 8)
 NAMES = {
@@ -29,6 +26,17 @@ NAMES = {
 }
 # How many buffers each call takes.
 BUFFERS = {OPEN: 1, ADD: 2, WITHDRAW: 1, REPORT: 3, JUDGE: 1, RENUMBER: 2, COMPARE: 2}
+# The numbers that each call can give back, 0 for accepted.
+OF_A_ROW = {5, 6, 7, 8, 9, 10}
+NUMBERS = {
+    OPEN: {0, 1, 3},
+    ADD: {0, 2, 3, 4, 11, 12} | OF_A_ROW,
+    WITHDRAW: {0, 2, 4, 13},
+    REPORT: {0, 2, 3, 14},
+    JUDGE: {0, 1, 3} | OF_A_ROW,
+    RENUMBER: {0, 1, 3} | OF_A_ROW,
+    COMPARE: {0, 1, 3} | OF_A_ROW,
+}
 HEAD = 6  # words before the buffers, in a request and in a reply
 LONGEST = 32768  # words in a buffer
 
@@ -110,178 +118,20 @@ def answer(call: Call) -> Answer:
     return ANSWERS[call.op](call.x, call.buffers)
 
 
-# Judging
+# Counts
 
-SPECIMENS_OF_3 = [
-    [5, 4, 4, 3, ROOT, 3],
-    [5, 3, 3, 4, 4, ROOT],
-    [4, 3, 3, 3, ROOT, 7],
-    [4, 3, 3, 3, ROOT, 0],
-    [5, 3, 3, 3, ROOT, 4],
-    [5, 4, 3, 3, ROOT, 3],
-    [5, 2, 3, 3, ROOT, 3],
-    [5, 4, 4, 3, ROOT, ROOT],
-    [3, 4, 4, 3, ROOT, 3],
-    [6, 4, 4, 3, ROOT, 3],
-]
-
-RUNS_OF_5 = [
-    [8, 7, 7, 6, 5, 5, ROOT, 5, 6, 0],
-    [8, 6, 6, 6, 7, 7, ROOT, 5, 5, 0],
-    [9, 7, 7, 5, 8, 8, ROOT, 5, 6, 6],
-]
-
-WRONG_SIZES = [0, 1, 513, 514, 1024, 32767, 32768, 32770, 65534, 65535]
+Counts = Counter[tuple[str, int]]  # how many there were, by name and number
 
 
-def judge(n: int, row: Words) -> Call:
-    """The call that judges a row."""
-    return Call(JUDGE, n, [row])
+def name_of(op: int) -> str:
+    """An op's number and name."""
+    return f"{op} {NAMES[op]}"
 
 
-def judge_specimens() -> Iterator[Call]:
-    """The specimen rows of document 01, and its three runs."""
-    yield judge(2, [3, 2, 2, ROOT])
-    for row in SPECIMENS_OF_3:
-        yield judge(3, row)
-    for row in RUNS_OF_5:
-        yield judge(5, row)
-
-
-def judge_sizes(rng: Random) -> Iterator[Call]:
-    """ "n of 1 and 513 give 1; 2 and 512 are taken" """
-    for shape in shapes.SHAPES:
-        for n in (2, 512):
-            yield judge(n, shapes.shuffled_row(rng, n, shape(rng, n)))
-    for row in ([2, 1], [2, 1, ROOT, 0], [1, ROOT], [1, 0], [0, 0], [2, ROOT], [ROOT, ROOT]):
-        yield judge(1, row)
-    for shape in shapes.SHAPES:
-        yield judge(513, shapes.shuffled_row(rng, 513, shape(rng, 513)))
-    yield judge(513, shapes.standard_row(512, shapes.binary(rng, 512)))
-
-
-def judge_wrong_sizes(rng: Random) -> Iterator[Call]:
-    """Rows of all sorts with n that is none, the empty row among them."""
-    for n in WRONG_SIZES:
-        yield judge(n, [])
-        in_16_bits = 2 * n % 65536
-        if in_16_bits <= 2048:
-            yield judge(n, [0] * in_16_bits)
-        for other in range(2, 9):
-            yield judge(n, shapes.any_row(rng, other))
-
-
-def judge_every_row_of_2() -> Iterator[Call]:
-    """Every row of two samples over a small alphabet."""
-    for row in product([0, 1, 2, 3, 4, ROOT], repeat=4):
-        yield judge(2, list(row))
-
-
-def judge_every_row_of_3() -> Iterator[Call]:
-    """Every row of three samples over a small alphabet; a smaller one where m is unfit."""
-    for m, *rest in product([4, 5], *[[0, 2, 3, 4, 5, ROOT]] * 5):
-        yield judge(3, [m] + rest)
-    for m, *rest in product([0, 3, 6, ROOT], *[[0, 3, ROOT]] * 5):
-        yield judge(3, [m] + rest)
-
-
-def judge_larger_rows(rng: Random) -> Iterator[Call]:
-    """Rows of every kind and of some 4 to 40 samples."""
-    for make in shapes.ROWS:
-        for n in range(4, 41):
-            for _ in range(7):
-                yield judge(n, make(rng, n))
-
-
-def judge_wide_rows(rng: Random) -> Iterator[Call]:
-    """Rows of every kind and of up to 512 samples."""
-    for make in shapes.ROWS:
-        yield judge(512, make(rng, 512))
-        for _ in range(4):
-            n = rng.randint(41, 512)
-            yield judge(n, make(rng, n))
-
-
-def judge_wrong_lengths(rng: Random) -> Iterator[Call]:
-    """Rows that are not 2n words, the empty one and the longest among them."""
-    for n in [2, 3, 4, 5, 8, 16, 30, 128, 511, 512]:
-        yield judge(n, [])
-        for length in (1, n, 2 * n - 1, 2 * n + 1):
-            yield judge(n, (shapes.valid_row(rng, n) + [0])[:length])
-    for _ in range(100):
-        n = rng.randint(2, 30)
-        yield judge(n, shapes.wrong_length(rng, shapes.any_row(rng, n)))
-    yield judge(512, rules.filled(LONGEST // 2, shapes.valid_row(rng, 512)))
-
-
-def stored_judge(rng: Random) -> Iterator[Call]:
-    """The calls of judging that are stored."""
-    yield from judge_specimens()
-    yield from judge_sizes(rng)
-    yield from judge_wrong_sizes(rng)
-    yield from judge_wrong_lengths(rng)
-    yield from judge_every_row_of_2()
-    yield from judge_every_row_of_3()
-    yield from judge_larger_rows(rng)
-    yield from judge_wide_rows(rng)
-
-
-def some_size(rng: Random) -> int:
-    """How many samples a random call has: mostly few, sometimes up to 512."""
-    return rng.randint(41, 512) if rng.random() < 0.03 else rng.randint(2, 40)
-
-
-def random_judge(rng: Random) -> Call:
-    """One call of judging, with any n and any row."""
-    n = some_size(rng)
-    row = shapes.any_row(rng, n)
-    if rng.random() < 0.04:
-        row = shapes.wrong_length(rng, row)
-    if rng.random() < 0.02:
-        n = rng.choice(WRONG_SIZES)
-    return judge(n, row)
-
-
-# All of them
-
-
-class Material(NamedTuple):
-    """The calls of one op: those stored, in order, and one at random."""
-
-    op: int
-    stored: Callable[[Random], Iterator[Call]]
-    random: Callable[[Random], Call]
-
-
-MATERIAL = [
-    Material(JUDGE, stored_judge, random_judge),
-]
-
-SEED = 20250  # with the op's number added, so that no op's calls hang on another's
-
-
-def stored_calls() -> Iterator[Call]:
-    """All calls that are stored, in their order."""
-    for material in MATERIAL:
-        yield from material.stored(Random(SEED + material.op))
-
-
-def random_calls(rng: Random, ops: list[int], count: int) -> Iterator[Call]:
-    """So many calls of these ops at random."""
-    makers = [material.random for material in MATERIAL if material.op in ops]
-    for _ in range(count):
-        yield rng.choice(makers)(rng)
-
-
-def table(counts: Counter[tuple[int, int]]) -> str:
-    """How many calls there were, by op and number."""
-    lines = ["op          number   calls"]
-    for (op, number), calls in sorted(counts.items()):
-        lines.append(f"{op} {NAMES[op]:<9} {number:>6} {calls:>7}")
-    lines.append(f"all{calls_in_all(counts):>23}")
+def table(counts: Counts) -> str:
+    """The counts, a line for each name and number."""
+    lines = ["call        number   count"]
+    for (name, number), count in sorted(counts.items()):
+        lines.append(f"{name:<11} {number:>6} {count:>7}")
+    lines.append(f"all{sum(counts.values()):>23}")
     return "\n".join(lines)
-
-
-def calls_in_all(counts: Counter[tuple[int, int]]) -> int:
-    """How many calls there were."""
-    return sum(counts.values())

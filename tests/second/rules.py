@@ -7,7 +7,8 @@ handed in is ever changed. Lines in quotes are document 01's.
 
 from __future__ import annotations
 
-from collections import Counter
+from collections import Counter, defaultdict
+from functools import lru_cache
 from typing import Iterable, NamedTuple, Optional
 
 Words = list[int]
@@ -124,19 +125,24 @@ def filler_refusal(n: int, row: Words) -> Refusal:
     return refuse_at((i for i in range(1 + row[0], 2 * n) if row[i] != 0), 8)
 
 
-def reaches_root(row: Words, v: int) -> bool:
-    """Whether the parents of v come to the root; m nodes are all there is to meet."""
-    for _ in range(row[0]):
-        if parent(row, v) == ROOT:
-            return True
-        v = parent(row, v)
-    return False
+def reaching_root(row: Words) -> set[int]:
+    """The nodes from which the parents reach the root: it, its children, theirs, and so on."""
+    children = defaultdict(list)
+    for v in range(row[0]):
+        children[parent(row, v)].append(v)
+    reaching: set[int] = set()
+    latest = children[ROOT]
+    while latest:
+        reaching.update(latest)
+        latest = [v for above in latest for v in children[above]]
+    return reaching
 
 
 def climb_refusal(n: int, row: Words) -> Refusal:
     """9: "a node from which the parents never reach the root"."""
     # "lowest such node": any node, leaves among them.
-    return refuse_at((v for v in range(row[0]) if not reaches_root(row, v)), 9)
+    reaching = reaching_root(row)
+    return refuse_at((v for v in range(row[0]) if v not in reaching), 9)
 
 
 def children_refusal(n: int, row: Words) -> Refusal:
@@ -292,9 +298,14 @@ def has_header(words: Words) -> bool:
     return capacity(len(words), n) >= max(1, k)
 
 
-def is_standard(n: int, row: Words) -> bool:
-    """Whether a row of 2n words is valid and in standard numbering."""
-    return row_refusal(n, row) is None and row == row_of(n, groups_of(n, row))
+@lru_cache(maxsize=64)
+def standard_tree(n: int, row: tuple[int, ...]) -> Optional[Tree]:
+    """The groups of a row of 2n words, or None if it is not valid or not in standard numbering."""
+    words = list(row)
+    if row_refusal(n, words):
+        return None
+    tree = groups_of(n, words)
+    return tree if words == row_of(n, tree) else None
 
 
 def has_identifiers(identifiers: list[int]) -> bool:
@@ -313,9 +324,10 @@ def read_study(words: Words) -> Optional[Study]:
     if any(words[end:]) or not has_identifiers([slot[0] for slot in slots]):
         return None
     # "identifier, then the row in standard numbering"; "each row is valid"
-    if not all(is_standard(n, slot[1:]) for slot in slots):
+    trees = [standard_tree(n, tuple(slot[1:])) for slot in slots]
+    if None in trees:
         return None
-    return Study(n, {slot[0]: groups_of(n, slot[1:]) for slot in slots})
+    return Study(n, {slot[0]: tree for slot, tree in zip(slots, trees)})
 
 
 # Calls on studies
@@ -330,25 +342,29 @@ def open_study(n: int, words: Words) -> Answer:
     return accepted([write_study(len(words), Study(n, {}))])
 
 
+def run_refusal(study: Study, room: int, identifier: int, row: Words) -> Refusal:
+    """The first of 3 to 12 that a study with room for so many runs gives to one more."""
+    return (
+        length_refusal(study.n, row)
+        or identifier_refusal(identifier)
+        or row_refusal(study.n, row)
+        # 11: "add: identifier already in force"
+        or refuse_if(identifier in study.runs, 11)
+        # 12: "add: k equals capacity"
+        or refuse_if(len(study.runs) == room, 12)
+    )
+
+
 def add(words: Words, identifier: int, row: Words) -> Answer:
     """A run is put into the study."""
     study = read_study(words)
     if study is None:  # 2: "the study handed in is not well formed"
         return refused((2, 0), [words, row])
-    n, runs = study
-    refusal = (
-        length_refusal(n, row)
-        or identifier_refusal(identifier)
-        or row_refusal(n, row)
-        # 11: "add: identifier already in force"
-        or refuse_if(identifier in runs, 11)
-        # 12: "add: k equals capacity"
-        or refuse_if(len(runs) == capacity(len(words), n), 12)
-    )
+    refusal = run_refusal(study, capacity(len(words), study.n), identifier, row)
     if refusal:
         return refused(refusal, [words, row])
-    after = {**runs, identifier: groups_of(n, row)}
-    return accepted([write_study(len(words), Study(n, after)), row])
+    after = {**study.runs, identifier: groups_of(study.n, row)}
+    return accepted([write_study(len(words), Study(study.n, after)), row])
 
 
 def withdraw(words: Words, identifier: int) -> Answer:
@@ -370,14 +386,23 @@ def report(words: Words, agreed: Words, support: Words) -> Answer:
     study = read_study(words)
     if study is None:  # 2: "the study handed in is not well formed"
         return refused((2, 0), [words, agreed, support])
-    n, runs = study
-    # 14: "report: k is 0"
-    refusal = length_refusal(n, agreed, support) or refuse_if(len(runs) == 0, 14)
+    refusal = length_refusal(study.n, agreed, support) or empty_refusal(study)
     if refusal:
         return refused(refusal, [words, agreed, support])
-    holders = holders_of(runs)
-    shown = majority(holders, len(runs))
-    return accepted([words, row_of(n, shown), support_row(n, shown, holders, len(runs))])
+    return accepted([words, *reported_rows(study)])
+
+
+def empty_refusal(study: Study) -> Refusal:
+    """14: "report: k is 0"."""
+    return refuse_if(len(study.runs) == 0, 14)
+
+
+def reported_rows(study: Study) -> list[Words]:
+    """The agreed row and the support row of a study with runs in force."""
+    n, k = study.n, len(study.runs)
+    holders = holders_of(study.runs)
+    shown = majority(holders, k)
+    return [row_of(n, shown), support_row(n, shown, holders, k)]
 
 
 def holders_of(runs: dict[int, Tree]) -> Counter[Group]:

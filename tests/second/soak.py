@@ -1,14 +1,18 @@
-"""Random calls through a program, each reply held against the rules.
+"""Random calls through one program and random files through another, held against the rules.
 
 python3 soak.py --calls N --seed S [--ops 5] PROGRAM [ARGUMENT...]
+python3 soak.py --files N --seed S --listing "PROGRAM ARGUMENT..."
 
-The program reads requests on standard input and writes replies on standard
-output. On the first difference the call is shown and the status is 1.
+The first program reads requests on standard input and writes replies on
+standard output; the second, the listing program, reads a file and writes its
+listing. Both may be named at once. On the first difference the call or the
+file is shown and the status is 1.
 """
 
 from __future__ import annotations
 
 import argparse
+import shlex
 import subprocess
 import sys
 from collections import Counter
@@ -20,32 +24,37 @@ sys.dont_write_bytecode = True
 
 from calls import (  # noqa: E402
     HEAD,
-    MATERIAL,
     Call,
+    Counts,
     answer,
     from_bytes,
-    random_calls,
+    name_of,
     reply_length,
     reply_words,
     request_words,
     table,
     to_bytes,
 )
+from files import random_file  # noqa: E402
+from listing import listed, number_in  # noqa: E402
+from material import active, known_ops, random_calls  # noqa: E402
 from rules import Words  # noqa: E402
 
 
 class Difference(Exception):
-    """What the program did otherwise than the rules."""
+    """What a program did otherwise than the rules."""
 
 
-def run(program: list[str], calls: list[Call]) -> tuple[int, bytes]:
-    """The status of the program and all that it writes when it is given these calls."""
-    requests = b"".join(to_bytes(request_words(call)) for call in calls)
+def run(program: list[str], data: bytes) -> tuple[int, bytes]:
+    """The status of a program and all that it writes when it is given these bytes."""
     try:
-        done = subprocess.run(program, input=requests, stdout=subprocess.PIPE, check=False)
+        done = subprocess.run(program, input=data, stdout=subprocess.PIPE, check=False)
     except OSError as problem:
         raise Difference(f"the program cannot be run: {problem}") from problem
     return done.returncode, done.stdout
+
+
+# Calls
 
 
 def shown_call(call: Call) -> str:
@@ -70,10 +79,10 @@ def difference(call: Call, expected: Words, came: Words, status: int) -> Differe
     return Difference("\n".join([shown_call(call), *replies, f"status    {status}"]))
 
 
-def soak_batch(program: list[str], calls: list[Call]) -> Counter[tuple[int, int]]:
+def soak_batch(program: list[str], calls: list[Call]) -> Counts:
     """Runs a batch of calls; how many there were by op and number."""
-    counts: Counter[tuple[int, int]] = Counter()
-    status, output = run(program, calls)
+    counts: Counts = Counter()
+    status, output = run(program, b"".join(to_bytes(request_words(call)) for call in calls))
     came, start = from_bytes(output), 0
     for call in calls:
         expected = reply_words(answer(call))
@@ -81,44 +90,69 @@ def soak_batch(program: list[str], calls: list[Call]) -> Counter[tuple[int, int]
         if reply != expected:
             raise difference(call, expected, reply, status)
         start += len(reply)
-        counts[call.op, expected[0]] += 1
+        counts[name_of(call.op), expected[0]] += 1
     if 2 * start != len(output) or status != 0:
         over = len(output) - 2 * start
         raise Difference(f"bytes after the last reply: {over}, status of the program: {status}")
     return counts
 
 
-def soak(program: list[str], calls: Iterator[Call], batch: int) -> Counter[tuple[int, int]]:
+def soak_calls(program: list[str], calls: Iterator[Call], batch: int) -> Counts:
     """Runs calls in batches; how many there were by op and number."""
-    counts: Counter[tuple[int, int]] = Counter()
+    counts: Counts = Counter()
     while some := list(islice(calls, batch)):
         counts += soak_batch(program, some)
     return counts
 
 
-def known_ops(text: str) -> list[int]:
-    """The ops of a list such as 5,6; only those with material."""
-    ops = [int(part) for part in text.split(",")]
-    unknown = set(ops) - {material.op for material in MATERIAL}
-    if unknown:
-        raise argparse.ArgumentTypeError(f"no calls are made for op {min(unknown)}")
-    return ops
+# Files
+
+
+def ended_by_signal(status: int) -> bool:
+    """Whether a program with this status was ended by a signal, itself or behind a shell."""
+    return status < 0 or status >= 128
+
+
+def soak_files(program: list[str], rng: Random, files: int) -> Counts:
+    """Runs the listing program on random files; how many there were by number."""
+    counts: Counts = Counter()
+    for _ in range(files):
+        data = random_file(rng)
+        expected = listed(data)
+        status, came = run(program, data)
+        if came != expected or ended_by_signal(status):
+            shown_file = f"file      {data.hex()}\nexpected  {expected!r}\ncame      {came!r}"
+            raise Difference(f"{shown_file}\nstatus    {status}")
+        counts["listing", number_in(expected)] += 1
+    return counts
+
+
+def soak(options: argparse.Namespace) -> Counts:
+    """Runs what the command line names."""
+    counts: Counts = Counter()
+    if options.program:
+        calls = random_calls(Random(options.seed), options.ops, options.calls)
+        counts += soak_calls(options.program, calls, options.batch)
+    if options.listing:
+        counts += soak_files(options.listing, Random(options.seed), options.files)
+    return counts
 
 
 def main() -> int:
     """Does what the command line asks."""
-    parser = argparse.ArgumentParser(description="Random calls, held against the rules.")
+    parser = argparse.ArgumentParser(description="Random calls and files, held against the rules.")
     parser.add_argument("--calls", type=int, default=10000)
     parser.add_argument("--seed", type=int, default=1)
-    parser.add_argument("--ops", type=known_ops, default="5", help="numbers parted by commas")
+    parser.add_argument("--ops", type=known_ops, default=active(), help="numbers parted by commas")
     parser.add_argument("--batch", type=int, default=2000, help="calls in one run of the program")
+    parser.add_argument("--files", type=int, default=1000)
+    parser.add_argument("--listing", type=shlex.split, help="the listing program, in one word")
     parser.add_argument("program", nargs=argparse.REMAINDER, help="the program and its arguments")
     options = parser.parse_args()
-    if not options.program or options.batch < 1:
+    if not (options.program or options.listing) or options.batch < 1:
         parser.error("a program is needed, and a batch of at least one call")
-    calls = random_calls(Random(options.seed), options.ops, options.calls)
     try:
-        counts = soak(options.program, calls, options.batch)
+        counts = soak(options)
     except Difference as found:
         print(found)
         return 1

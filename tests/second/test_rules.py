@@ -13,16 +13,17 @@ from typing import Callable
 
 sys.dont_write_bytecode = True
 
-import calls  # noqa: E402
+import files  # noqa: E402
+import listing  # noqa: E402
+import rows  # noqa: E402
 import rules  # noqa: E402
 import shapes  # noqa: E402
+import test_makers  # noqa: E402
+from listing import listed  # noqa: E402
 from rules import ROOT, Words  # noqa: E402
+from specimens import BARE_3, ONLY_TREE_OF_2, RUNS_OF_5, WITH_01, WITH_02  # noqa: E402
 
-RUN_1, RUN_2, RUN_3 = calls.RUNS_OF_5
-WITH_01 = [5, 4, 4, 3, ROOT, 3]
-WITH_02 = [5, 4, 3, 4, ROOT, 3]
-BARE_3 = [4, 3, 3, 3, ROOT, 0]
-ONLY_TREE_OF_2 = [3, 2, 2, ROOT]
+RUN_1, RUN_2, RUN_3 = RUNS_OF_5
 
 
 def verdict(answer: rules.Answer) -> tuple[int, int]:
@@ -51,10 +52,10 @@ def withdrawn(words: Words, identifier: int) -> Words:
     return answer.buffers[0]
 
 
-def study_of(n: int, rows: list[Words]) -> Words:
+def study_of(n: int, runs: list[Words]) -> Words:
     """A study of 300 words that holds these rows as runs 1, 2, and so on."""
     words = opened(n, 300)
-    for i, row in enumerate(rows):
+    for i, row in enumerate(runs):
         words = added(words, 1 + i, row)
     return words
 
@@ -116,7 +117,7 @@ def test_sizes() -> None:
         refusal_leaves_all(rules.compare(n, [3], [4]), 1, 0, [3], [4])
         refusal_leaves_all(rules.open_study(n, [5] * 3000), 1, 0, [5] * 3000)
     for n in (2, 512):
-        row = shapes.standard_row(n, shapes.trivial_groups(n))
+        row = rows.standard_row(n, shapes.trivial_groups(n))
         assert verdict(rules.judge(n, row)) == (0, 0)
         assert reported(added(opened(n, 3000), 1, row), n)[0] == row
 
@@ -286,51 +287,12 @@ def test_not_well_formed() -> None:
         assert rules.read_study(opened(3, 15)[:length]) is None
 
 
-# Trees and their makers
-
-
-def test_number_of_trees() -> None:
-    """The rows that judging accepts make 1, 4 and 26 trees of 2, 3 and 4 samples."""
-    for n, trees in ((2, 1), (3, 4), (4, 26)):
-        rows = [row for m in range(n + 1, 2 * n) for row in rows_in_range(n, m)]
-        valid = [row for row in rows if rules.judge(n, row).number == 0]
-        assert len({rules.groups_of(n, row) for row in valid}) == trees
-        assert len({tuple(rules.renumber(n, row, row).buffers[1]) for row in valid}) == trees
-
-
-def rows_in_range(n: int, m: int) -> list[Words]:
-    """Every row of m nodes that the checks 5, 6 and 8 pass."""
-    inner = list(range(n, m))
-    parents = product(*[inner] * n, *[inner + [ROOT]] * (m - n))
-    return [rules.filled(n, [m, *chosen]) for chosen in parents]
-
-
-def test_makers_make_trees() -> None:
-    """Trees of every shape, and their neighbours, are trees in every numbering."""
-    rng = Random(1)
-    for n in (2, 3, 4, 7, 12):
-        for shape in shapes.SHAPES * 5:
-            for tree in (shape(rng, n), shapes.one_move(rng, n, shape(rng, n))):
-                for row in (shapes.standard_row(n, tree), shapes.shuffled_row(rng, n, tree)):
-                    assert rules.judge(n, row).number == 0
-                    assert rules.groups_of(n, row) == tree
-                assert all(rules.agree(*pair) for pair in combinations(tree, 2))
-
-
-def test_moves_move() -> None:
-    """A tree one move away is another tree, where there is one."""
-    rng = Random(2)
-    for n in (3, 5, 9):
-        for tree in (shapes.any_tree(rng, n) for _ in range(50)):
-            assert shapes.one_move(rng, n, tree) != tree
-
-
 def test_report_is_majority() -> None:
     """Every set of samples is shown exactly if more than half of the runs hold it."""
     rng = Random(3)
     for k in range(1, 9):
-        for trees in (shapes.runs_near(rng, 5, k, 2), shapes.runs_halved(rng, 5, k)):
-            words = study_of(5, [shapes.shuffled_row(rng, 5, tree) for tree in trees])
+        for trees in (shapes.runs_near(rng, 5, k), shapes.runs_halved(rng, 5, k)):
+            words = study_of(5, [rows.shuffled_row(rng, 5, tree) for tree in trees])
             agreed, support = reported(words, 5)
             shown = rules.groups_of(5, agreed)
             for samples in sets_of_samples(5):
@@ -343,21 +305,102 @@ def sets_of_samples(n: int) -> list[frozenset[int]]:
     return [frozenset(some) for size in range(1, n + 1) for some in combinations(range(n), size)]
 
 
-def test_requests_are_read_back() -> None:
-    """Requests turned into bytes and back are the same calls."""
-    stored = list(calls.stored_calls())
-    data = b"".join(calls.to_bytes(calls.request_words(call)) for call in stored)
-    assert list(calls.read_requests(calls.from_bytes(data))) == stored
+# The listing program
 
 
-def test_bytes_of_a_request() -> None:
-    """A request and its reply, byte for byte."""
-    call = calls.judge(3, [4, 3, 3, 3, ROOT, 7])
-    row = bytes([4, 0, 3, 0, 3, 0, 3, 0, 255, 255, 7, 0])
-    head = bytes([5, 0, 3, 0, 0, 0, 6, 0, 0, 0, 0, 0])
-    assert calls.to_bytes(calls.request_words(call)) == head + row
-    head = bytes([8, 0, 5, 0, 0, 0, 0, 0, 0, 0, 0, 0])
-    assert calls.to_bytes(calls.reply_words(calls.answer(call))) == head + row
+def test_the_case() -> None:
+    """The 75 bytes of document 01's case, and its whole output."""
+    assert len(files.THE_CASE) == 75
+    assert files.THE_CASE[:13] == b"ARB\1\0\5\0\3\0\1\0\x08\0"
+    lines = ["ARB 1 5 3", "5 - 3 0 1 2 3 4", "6 5 2 0 1 2", "7 6 2 0 1", "8 5 2 3 4"]
+    assert listed(files.THE_CASE).decode() == "".join(line + "\n" for line in lines)
+
+
+def test_small_listings() -> None:
+    """One run of two samples; two runs that agree on nothing; the order of slots."""
+    only = files.file_of(2, [[65535] + ONLY_TREE_OF_2])
+    assert listed(only) == b"ARB 1 2 1\n2 - 1 0 1\n"
+    halves = files.file_of(3, [[9] + WITH_01, [4] + WITH_02])
+    assert listed(halves) == b"ARB 1 3 2\n3 - 2 0 1 2\n"
+    three = files.file_of(3, [[9] + WITH_01, [4] + WITH_02, [1, 5, 3, 3, 4, 4, ROOT]])
+    assert listed(three) == b"ARB 1 3 3\n3 - 3 0 1 2\n4 3 2 0 1\n"
+
+
+def test_bad_files() -> None:
+    """15 for lengths, marks and versions, before all others."""
+    for length in range(75):
+        assert listed(files.THE_CASE[:length]) == b"refused 15 0 0\n"
+    others = [files.THE_CASE + b"\0", b"ARC" + files.THE_CASE[3:]]
+    others += [files.head(5, 3, 2) + files.THE_CASE[9:], files.head(513, 0, 0)]
+    others += [files.head(2, 6553) + b"\0" * 65530, files.head(5, 32771) + files.THE_CASE[9:]]
+    for data in others + list(files.wrong_products(Random(1))):
+        assert listed(data) == b"refused 15 0 0\n"
+
+
+def test_refused_sizes() -> None:
+    """1 for n out of range with its own length, 14 for no run."""
+    for n, k in ((0, 0), (0, 7), (1, 2), (513, 0), (513, 31), (16379, 1), (65535, 0)):
+        assert listed(files.head(n, k) + b"\7\0" * (k * (2 * n + 1))) == b"refused 1 0 0\n"
+    for n in (2, 512):
+        assert listed(files.head(n, 0)) == b"refused 14 0 0\n"
+
+
+def test_refused_slots() -> None:
+    """Number, position of the slot and place: the first slot that is refused decides."""
+    good, other = [7] + WITH_01, [8] + WITH_02
+    for number, place, row in ROWS_REFUSED:
+        line = f"refused {number} 1 {place}\n".encode()
+        assert listed(files.file_of(3, [good, [9] + row, [0] + row])) == line
+        assert listed(files.file_of(3, [good, [7] + row, good])) == line
+        assert listed(files.file_of(3, [good, [0] + row])) == b"refused 4 1 0\n"
+    assert listed(files.file_of(3, [good, other, good])) == b"refused 11 2 0\n"
+    assert listed(files.file_of(3, [[0] + WITH_01, good, good])) == b"refused 4 0 0\n"
+
+
+def test_more_slots_than_runs() -> None:
+    """k above 1,024 gives 12 at slot 1,024, if that slot passes 4 to 11."""
+    slots = [[1 + i] + ONLY_TREE_OF_2 for i in range(1026)]
+    assert listed(files.file_of(2, slots[:1024])) == b"ARB 1 2 1024\n2 - 1024 0 1\n"
+    for k in (1025, 1026):
+        assert listed(files.file_of(2, slots[:k])) == b"refused 12 1024 0\n"
+    assert listed(files.file_of(2, slots[:1024] + [slots[5]])) == b"refused 11 1024 0\n"
+    bad = [3, 2, 2, 2]
+    assert listed(files.file_of(2, slots[:1024] + [[2000] + bad])) == b"refused 7 1024 0\n"
+    assert listed(files.file_of(2, slots[:1025] + [[0] + bad])) == b"refused 12 1024 0\n"
+
+
+def test_listing_is_the_calls() -> None:
+    """ "It opens a study of 32,768 words, adds the slots in file order and reports." """
+    rng = Random(4)
+    for _ in range(150):
+        n = rng.randint(2, 7)
+        data = files.with_row(rng, n, rows.any_row(rng, n))
+        if rng.random() < 0.3:
+            data = files.with_identifiers(rng, n, [7, 7])
+        assert listed(data) == by_calls(data), data.hex()
+
+
+def by_calls(data: bytes) -> bytes:
+    """The listing of a file that is not bad, by the calls on a study."""
+    n, slots = listing.read_file(data)
+    words = opened(n, 32768)
+    for position, (identifier, *row) in enumerate(slots):
+        answer = rules.add(words, identifier, row)
+        if answer.number:
+            return f"refused {answer.number} {position} {answer.place}\n".encode()
+        words = answer.buffers[0]
+    agreed, support = reported(words, n)
+    lines = [f"ARB 1 {n} {support[0]}"]
+    for v in range(n, agreed[0]):
+        above = "-" if agreed[1 + v] == ROOT else agreed[1 + v]
+        samples = " ".join(str(s) for s in range(n) if v in path_up(agreed, s))
+        lines.append(f"{v} {above} {support[1 + v]} {samples}")
+    return "".join(line + "\n" for line in lines).encode()
+
+
+def path_up(row: Words, v: int) -> list[int]:
+    """The nodes from one up to the root."""
+    return [] if v == ROOT else [v] + path_up(row, row[1 + v])
 
 
 def passes(test: Callable[[], None]) -> bool:
@@ -371,8 +414,9 @@ def passes(test: Callable[[], None]) -> bool:
 
 
 def main() -> int:
-    """Runs every test."""
-    tests = [test for name, test in globals().items() if name.startswith("test_")]
+    """Runs every test, here and of the makers."""
+    named = {**vars(test_makers), **globals()}
+    tests = [test for name, test in named.items() if name.startswith("test_") and callable(test)]
     passed = sum(map(passes, tests))
     print(f"{passed} passed, {len(tests) - passed} failed")
     return 0 if passed == len(tests) else 1

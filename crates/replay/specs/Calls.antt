@@ -4,6 +4,8 @@ use mathlib.Core.List.{List, [], _∷_}
 use lib.ListN.{getD}
 use Rattle.judge.specs.declared.Answer.{Answer}
 use Rattle.judge.specs.declared.Answer.the-variants.{Accepted, Refused}
+use Rattle.row.specs.declared.comparing.Comparison.{Comparison}
+use Rattle.row.specs.declared.comparing.Comparison.the-variants as comparison
 use Rattle.replay.specs.declared.calls.Head.{Head}
 use Rattle.replay.specs.declared.calls.Reply.{Reply}
 
@@ -19,6 +21,11 @@ plainReply number place = record { number = number; place = place; c1 = 0; c2 = 
 abbrev pub replyTo : Answer → Reply
 replyTo Accepted = plainReply 0 0
 replyTo (Refused number place) = plainReply number place
+
+-- the reply that a comparison makes: its counts, or a refusal's number and place
+abbrev pub replyCounts : Comparison → Reply
+replyCounts (comparison.Counted c1 c2 c3) = record { number = 0; place = 0; c1 = c1; c2 = c2; c3 = c3 }
+replyCounts (comparison.Refused number place) = plainReply number place
 
 -- a reply's six words: the number, the place's low word and high word, the counts
 abbrev pub replyWords : Reply → List ℕ

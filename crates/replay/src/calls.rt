@@ -1,14 +1,21 @@
 // The calls by number: what a request asks for, and what its reply says.
 //
 //     5 judge      x = n           a the row
+//     6 renumber   x = n           a the row, b the new row
+//     7 compare    x = n           a the first row, b the second
 //
 // A call that is added has a line above, a number below, an arm in `called` and a function of its own.
 use crate::words::wide;
 use judge::Answer;
+use row::Comparison;
 ghost use mathlib.Core.Path.{_≡_};
-ghost use Rattle.replay.specs.Calls.{headOf, plainReply, replyTo, replyWords};
+ghost use Rattle.replay.specs.Calls.{headOf, plainReply, replyTo, replyCounts, replyWords};
 
 const OP_JUDGE: u16 = 5;
+
+const OP_RENUMBER: u16 = 6;
+
+const OP_COMPARE: u16 = 7;
 
 // The head of a request: the call, its numbers x and y, and how many words its buffers have.
 pub struct Head {
@@ -40,6 +47,8 @@ pub fn called(head: Head, a: &mut [u16], b: &mut [u16], c: &mut [u16]) -> Outcom
     let op = head.op;
     match op {
         OP_JUDGE => Outcome::Told(judged(head, a)),
+        OP_RENUMBER => Outcome::Told(renumbered(head, a, b)),
+        OP_COMPARE => Outcome::Told(compared(head, a, b)),
         _ => Outcome::Unknown,
     }
 }
@@ -47,6 +56,32 @@ pub fn called(head: Head, a: &mut [u16], b: &mut [u16], c: &mut [u16]) -> Outcom
 // The reply to judging the row a.
 fn judged(head: Head, a: &[u16]) -> Reply {
     reply_to(arb::judge(wide(head.x), a))
+}
+
+// The reply to renumbering the row a in b.
+fn renumbered(head: Head, a: &[u16], b: &mut [u16]) -> Reply {
+    reply_to(arb::renumber(wide(head.x), a, b))
+}
+
+// The reply to comparing the rows a and b.
+fn compared(head: Head, a: &[u16], b: &[u16]) -> Reply {
+    reply_counts(arb::compare(wide(head.x), a, b))
+}
+
+// The reply that a comparison makes.
+fn reply_counts(comparison: Comparison) -> Reply
+    ensures { λ r. ⌜ r ≡ replyCounts comparison ⌝ }
+{
+    match comparison {
+        Comparison::Counted(c1, c2, c3) => Reply {
+            number: 0,
+            place: 0,
+            c1,
+            c2,
+            c3,
+        },
+        Comparison::Refused(number, place) => plain_reply(number, place),
+    }
 }
 
 // The reply that an answer makes.

@@ -1,0 +1,31 @@
+-- `row::comparing::common` counts the inner nodes that have a mate: those whose group the other row holds. Assumes nothing.
+use mathlib.Core.Path.{_∙_}
+use denote.Ref.{now}
+use borrow.Author.Needs.{needs}
+use Rattle.row.proofs.CountLaws.{mates-held}
+use Rattle.row.proofs.comparing.common.Statement.{statement}
+use Rattle.row.proofs.comparing.common.Tie as tie
+
+tables-requires : tie.Need-tables-requires
+tables-requires c κs = search needs
+
+mates-requires : tie.Need-mates-requires
+mates-requires c κs = search needs
+
+nodes-requires : tie.Need-nodes-requires
+nodes-requires c κs = search needs
+
+mated-requires : tie.Need-mated-requires
+mated-requires c κs = search needs
+
+returns : tie.Need-returns
+returns c =
+    let st : tie.Start = search needs in
+    let filled : tie.After-mates = search needs in
+    let m : tie.After-nodes = search needs in
+    rw (m .nodes .ensures) at (c .mated .ensures)
+    ∙ mates-held _ (now (st .args .a)) (now (st .args .b)) (st .pre .0) (st .pre .1) _ (filled .mates .ensures .0)
+
+pub common-spec : {M : Type 1} → statement M
+common-spec =
+    tie.close (tie.spec tables-requires mates-requires nodes-requires mated-requires returns)

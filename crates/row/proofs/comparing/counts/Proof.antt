@@ -1,0 +1,50 @@
+-- `row::comparing::counts` takes what both rows have from the nodes of each. Assumes nothing.
+use native.Mathlib.Omega.{arith}
+use denote.Ref.{now}
+use borrow.Author.Needs.{needs}
+use Rattle.row.proofs.CountLaws.{shared-first, shared-second, counts-compared}
+use Rattle.row.proofs.comparing.counts.Statement.{statement}
+use Rattle.row.proofs.comparing.counts.Tie as tie
+
+common-requires : tie.Need-common-requires
+common-requires c κs = search needs
+
+add-both : tie.Need-add-both
+add-both c =
+    let st = c .before .before .before in
+    let ok = st .pre .0 .valid in
+    omega (arith, shared-first _ (now (st .args .a)) (now (st .args .b)) (st .pre .0) (st .pre .1) _ (c .common .ensures), ok .high, ok .most)
+
+nodes-requires : tie.Need-nodes-requires
+nodes-requires c κs = search needs
+
+sub-first : tie.Need-sub-first
+sub-first c =
+    let st = c .before .before .before .before in
+    omega (arith, c .nodes .ensures, shared-first _ (now (st .args .a)) (now (st .args .b)) (st .pre .0) (st .pre .1) _ (c .before .common .ensures))
+
+nodes-requires-2 : tie.Need-nodes-requires-2
+nodes-requires-2 c κs = search needs
+
+sub-second : tie.Need-sub-second
+sub-second c =
+    let st = c .before .before .before .before .before in
+    omega (arith, c .nodes2 .ensures, shared-second _ (now (st .args .a)) (now (st .args .b)) (st .pre .0) (st .pre .1) _ (c .before .before .common .ensures))
+
+returns : tie.Need-returns
+returns c =
+    let st = c .before .before .before .before .before in
+    rw (c .before .nodes .ensures, c .nodes2 .ensures)
+    (counts-compared _ (now (st .args .a)) (now (st .args .b)) (st .pre .0) (st .pre .1) _ (c .before .before .common .ensures))
+
+pub counts-spec : {M : Type 1} → statement M
+counts-spec =
+    tie.close
+    (tie.spec
+    common-requires
+    add-both
+    nodes-requires
+    sub-first
+    nodes-requires-2
+    sub-second
+    returns)

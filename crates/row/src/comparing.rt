@@ -1,0 +1,102 @@
+// Comparing two rows that are handed in.
+ghost use mathlib.Core.Path.{_≡_};
+ghost use mathlib.Core.Bool.{not};
+ghost use Prim.Native.Nat.{_≤_};
+ghost use lib.Dec.{eqb};
+ghost use lib.ListN.{length, getD};
+ghost use Rattle.trees.specs.Lists.{range, count};
+ghost use Rattle.trees.specs.Rows.{nodes, groupAt, holds};
+ghost use Rattle.trees.specs.Checks.{rowWords};
+ghost use Rattle.trees.specs.Valid.{Valid, Standard};
+ghost use Rattle.trees.specs.Comparing.{compared};
+ghost use Rattle.trees.specs.Tables.{tableWords};
+ghost use Rattle.trees.specs.Mates.{noMate};
+ghost use Rattle.trees.specs.RowCalls.{comparing};
+ghost use Rattle.row.specs.Comparisons.{comparison};
+use crate::renumbering::check_first;
+use crate::standard::renumber_valid;
+use judge::Answer;
+use passes::TABLE;
+
+// "three counts: groups in both rows, only in the first, only in the second", or a refusal.
+pub enum Comparison {
+    Counted(usize, usize, usize),
+    Refused(usize, usize),
+}
+
+// How many of the nodes from n to below m have a mate.
+fn mated(n: usize, m: usize, mate: &[u16; TABLE]) -> usize
+    requires { ⌜ m ≤ tableWords ⌝ }
+    ensures { λ r. ⌜ r ≡ count (λ v. not (eqb (getD (now (mate .entry)) v 0) noMate)) (range n m) ⌝ }
+{
+    let mut found: usize = 0;
+    let mut v = n;
+    while v < m {
+        if mate[v] != passes::NO_MATE {
+            found += 1;
+        }
+        v += 1;
+    }
+    found
+}
+
+// How many inner nodes of a standard row have a group that another holds.
+fn common(n: usize, a: &[u16], b: &[u16]) -> usize
+    requires { ⌜ Standard n (now a) × Standard n (now b) ⌝ }
+    ensures { λ r. ⌜ r ≡ count (λ v. holds n (groupAt n (now (a .entry)) v) (now (b .entry))) (range n (nodes (now (a .entry)))) ⌝ }
+{
+    let mut size: [u16; TABLE] = [0; TABLE];
+    let mut low: [u16; TABLE] = [0; TABLE];
+    let mut start: [u16; TABLE] = [0; TABLE];
+    let mut mate: [u16; TABLE] = [0; TABLE];
+    passes::tables(n, a, &mut size, &mut low, &mut start);
+    passes::mates(n, a, &size, &low, &start, b, &mut mate);
+    mated(n, judge::nodes(a), &mate)
+}
+
+// The counts of two standard rows.
+fn counts(n: usize, a: &[u16], b: &[u16]) -> Comparison
+    requires { ⌜ Standard n (now a) × Standard n (now b) ⌝ }
+    ensures { λ r. ⌜ comparison r ≡ compared n (now (a .entry)) (now (b .entry)) ⌝ }
+{
+    let both = common(n, a, b) + n;
+    let first = judge::nodes(a) - both;
+    let second = judge::nodes(b) - both;
+    Comparison::Counted(both, first, second)
+}
+
+// The counts of two valid rows, by way of their standard rows, written to a and b.
+fn counts_by(n: usize, first: &[u16], second: &[u16], a: &mut [u16], b: &mut [u16]) -> Comparison
+    requires { ⌜ Valid n (now first) × Valid n (now second) × (length (now a) ≡ rowWords n) × (length (now b) ≡ rowWords n) ⌝ }
+    ensures { λ r. ⌜ comparison r ≡ compared n (now (first .entry)) (now (second .entry)) ⌝ }
+{
+    renumber_valid(n, first, a);
+    renumber_valid(n, second, b);
+    counts(n, a, b)
+}
+
+// The counts of two valid rows.
+fn counts_valid(n: usize, first: &[u16], second: &[u16]) -> Comparison
+    requires { ⌜ Valid n (now first) × Valid n (now second) ⌝ }
+    ensures { λ r. ⌜ comparison r ≡ compared n (now (first .entry)) (now (second .entry)) ⌝ }
+{
+    let w = 2 * n;
+    let mut a: [u16; TABLE] = [0; TABLE];
+    let mut b: [u16; TABLE] = [0; TABLE];
+    counts_by(n, first, second, &mut a[..w], &mut b[..w])
+}
+
+// Comparing: a refusal, of the second row with 2n added to its place, or the three counts.
+pub fn compare(n: usize, first: &[u16], second: &[u16]) -> Comparison
+    ensures { λ r. ⌜ comparison r ≡ comparing n (now (first .entry)) (now (second .entry)) ⌝ }
+{
+    let a = check_first(n, first, second);
+    if let Answer::Refused(number, place) = a {
+        return Comparison::Refused(number, place);
+    }
+    let b = judge::check_row(n, second);
+    if let Answer::Refused(number, place) = b {
+        return Comparison::Refused(number, place + 2 * n);
+    }
+    counts_valid(n, first, second)
+}

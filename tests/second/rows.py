@@ -1,0 +1,244 @@
+"""Makers of test material: rows of trees, rows that are none, words of any kind.
+
+All chance comes from the random.Random handed in, and every list that chance
+picks from has a fixed order, so the same seed makes the same material.
+"""
+
+from __future__ import annotations
+
+from itertools import product
+from random import Random
+from typing import Callable, Iterator
+
+from rules import ROOT, Tree, Words, filled, groups_of, row_in_order, row_of, row_refusal
+from rules import standard_order
+from shapes import any_tree, bare, binary, caterpillar, few_inner, shuffled
+
+# How many samples
+
+# n that is none, with those among them whose double would be right in 16 bits.
+WRONG_SIZES = [0, 1, 513, 514, 1024, 32767, 32768, 32770, 65534, 65535]
+
+
+def some_size(rng: Random) -> int:
+    """How many samples a random row has: mostly few, sometimes up to 512."""
+    return rng.randint(41, 512) if rng.random() < 0.03 else rng.randint(2, 40)
+
+
+# Rows of trees
+
+
+def standard_row(n: int, tree: Tree) -> Words:
+    """The row of a tree in standard numbering."""
+    return row_of(n, tree)
+
+
+def shuffled_row(rng: Random, n: int, tree: Tree) -> Words:
+    """The row of a tree in some numbering of its inner nodes."""
+    return row_in_order(n, shuffled(rng, standard_order(tree)))
+
+
+def valid_row(rng: Random, n: int) -> Words:
+    """The row of a tree of any shape in any numbering."""
+    tree = any_tree(rng, n)
+    return standard_row(n, tree) if rng.random() < 0.25 else shuffled_row(rng, n, tree)
+
+
+def rows_in_range(n: int, m: int) -> Iterator[Words]:
+    """Every row of m nodes that the checks 5, 6 and 8 pass."""
+    inner = list(range(n, m))
+    for parents in product(*[inner] * n, *[inner + [ROOT]] * (m - n)):
+        yield filled(n, [m, *parents])
+
+
+def valid_rows(n: int) -> list[Words]:
+    """Every valid row of so few samples."""
+    rows = [row for m in range(n + 1, 2 * n) for row in rows_in_range(n, m)]
+    return [row for row in rows if row_refusal(n, row) is None]
+
+
+def every_tree(n: int) -> list[Tree]:
+    """Every tree of so few samples, each once."""
+    rows = [row_of(n, groups_of(n, row)) for row in valid_rows(n)]
+    return [groups_of(n, list(row)) for row in sorted(set(map(tuple, rows)))]
+
+
+# Words that a buffer held before
+
+
+def old_words(rng: Random, length: int) -> Words:
+    """Words of no meaning, or of some: so much may stand in a buffer that is written to."""
+    any_words = [rng.randrange(65536) for _ in range(length)]
+    same = [rng.choice([0, 1, 7, 256, ROOT])] * length
+    return rng.choice([any_words, same])
+
+
+# Rows that judging refuses, most of them
+
+
+def some_place(rng: Random, n: int, row: Words) -> int:
+    """A word of a row: word 0, or a leaf's parent, an inner node's parent or filler."""
+    after = 1 + row[0]
+    filler = range(after, 2 * n) or range(0, 1)
+    leaves, inner = range(1, n + 1), range(n + 1, after)
+    return rng.choice(rng.choice([range(0, 1), leaves, leaves, inner, inner, inner, filler]))
+
+
+def fit_word(rng: Random, n: int, row: Words, i: int) -> int:
+    """What the parent of an inner node may be, its own number among them."""
+    return rng.choice([n, row[0] - 1, i - 1, ROOT, rng.randrange(n, row[0])]) % 65536
+
+
+def bound_word(rng: Random, n: int, row: Words) -> int:
+    """A word at the bounds of what words may be, or any word."""
+    m = row[0]
+    return rng.choice([n - 1, m, m + 1, 2 * n - 1, 2 * n, 0, ROOT, rng.randrange(65536)])
+
+
+def damaged_row(rng: Random, n: int, row: Words) -> Words:
+    """A valid row with one to three words put at another value."""
+    damaged = list(row)
+    for _ in range(rng.randint(1, 3)):
+        i = some_place(rng, n, row)
+        fit = rng.random() < 0.5
+        damaged[i] = fit_word(rng, n, row, i) if fit else bound_word(rng, n, row)
+    return damaged
+
+
+def any_damaged_row(rng: Random, n: int) -> Words:
+    """A valid row of any shape and numbering with one to three words changed."""
+    return damaged_row(rng, n, valid_row(rng, n))
+
+
+def row_of_parents(n: int, parents: dict[int, int]) -> Words:
+    """The row in which each node has the parent given."""
+    return filled(n, [len(parents)] + [parents[v] for v in range(len(parents))])
+
+
+def some_inner_nodes(rng: Random, n: int) -> list[int]:
+    """Inner nodes from n on, as many as a row may have, in some order."""
+    return shuffled(rng, list(range(n, rng.randint(n + 1, 2 * n - 1))))
+
+
+def leaves_anywhere(rng: Random, n: int, inner: list[int]) -> dict[int, int]:
+    """Each leaf with some inner node as its parent."""
+    return {leaf: rng.choice(inner) for leaf in range(n)}
+
+
+def hung(rng: Random, root: int, others: list[int]) -> dict[int, int]:
+    """The parents of a tree of these nodes: each of the others under an earlier one."""
+    nodes = [root] + others
+    return {root: ROOT, **{v: rng.choice(nodes[: i + 1]) for i, v in enumerate(others)}}
+
+
+def grown_row(rng: Random, n: int) -> Words:
+    """A row in which every node reaches the root, but nodes may lack children (for 10)."""
+    root, *others = some_inner_nodes(rng, n)
+    leaves = leaves_anywhere(rng, n, [root] + others)
+    return row_of_parents(n, hung(rng, root, others) | leaves)
+
+
+def chained_row(rng: Random, n: int) -> Words:
+    """A row whose inner nodes are one chain, for the longest climbs; leaves hang anywhere."""
+    inner = some_inner_nodes(rng, n)
+    parents = leaves_anywhere(rng, n, inner)
+    parents.update(zip(inner, [ROOT] + inner))
+    return row_of_parents(n, parents)
+
+
+def nearly_binary_row(rng: Random, n: int) -> Words:
+    """A valid row with one leaf moved: often one inner node is left with one child."""
+    row = shuffled_row(rng, n, binary(rng, n))
+    row[1 + rng.randrange(n)] = rng.randrange(n, row[0])
+    return row
+
+
+def ring(cycle: list[int]) -> dict[int, int]:
+    """The parents of a cycle of these nodes."""
+    return dict(zip(cycle, cycle[1:] + cycle[:1]))
+
+
+def looped_row(rng: Random, n: int) -> Words:
+    """A row with a cycle of any length (for 9), where n allows; the rest hangs anywhere."""
+    root, *others = some_inner_nodes(rng, n)
+    length = rng.randint(1, max(1, len(others)))
+    parents = hung(rng, root, others) | ring(others[:length])
+    return row_of_parents(n, parents | leaves_anywhere(rng, n, [root] + others))
+
+
+def dry_looped_row(rng: Random, n: int) -> Words:
+    """A row with a cycle of any length that has no leaf below it (for 9), where n allows."""
+    root, *others = some_inner_nodes(rng, n)
+    start = rng.randint(0, max(0, len(others) - 1))
+    parents = hung(rng, root, others[:start]) | ring(others[start:])
+    return row_of_parents(n, parents | leaves_anywhere(rng, n, [root] + others[:start]))
+
+
+def bent_row(rng: Random, n: int) -> Words:
+    """A deep tree with one inner node put under another, often one below itself (for 9)."""
+    row = shuffled_row(rng, n, rng.choice([caterpillar, binary])(rng, n))
+    below_root = [v for v in range(n, row[0]) if row[1 + v] != ROOT]
+    if below_root:
+        row[1 + rng.choice(below_root)] = rng.randrange(n, row[0])
+    return row
+
+
+def filler_row(rng: Random, n: int) -> Words:
+    """A row of a tree with few inner nodes and filler that is not 0 (for 8), where n allows."""
+    row = shuffled_row(rng, n, rng.choice([bare, few_inner])(rng, n))
+    filler = range(1 + row[0], 2 * n)
+    for i in rng.sample(filler, min(len(filler), rng.randint(1, 2))):
+        row[i] = rng.choice([1, n, 2 * n, 256, ROOT])
+    return row
+
+
+def roots_row(rng: Random, n: int) -> Words:
+    """A row of a tree with no root or more than one (for 7)."""
+    row = valid_row(rng, n)
+    for v in rng.sample(range(n, row[0]), rng.randint(1, min(3, row[0] - n))):
+        row[1 + v] = rng.choice(range(n, row[0])) if row[1 + v] == ROOT else ROOT
+    return row
+
+
+def wild_row(rng: Random, n: int) -> Words:
+    """A row with a fit or unfit m and any words behind it."""
+    m = rng.choice([rng.randint(n + 1, 2 * n - 1), n, 2 * n, rng.randrange(65536)])
+    return [m] + [rng.choice([rng.randrange(n, 2 * n), 0, ROOT]) for _ in range(2 * n - 1)]
+
+
+ROWS: list[Callable[[Random, int], Words]] = [
+    valid_row,
+    valid_row,
+    valid_row,
+    any_damaged_row,
+    any_damaged_row,
+    any_damaged_row,
+    any_damaged_row,
+    nearly_binary_row,
+    grown_row,
+    chained_row,
+    looped_row,
+    dry_looped_row,
+    bent_row,
+    filler_row,
+    roots_row,
+    wild_row,
+]
+
+
+def any_row(rng: Random, n: int) -> Words:
+    """A row of 2n words of any kind above."""
+    return rng.choice(ROWS)(rng, n)
+
+
+def wrong_length(rng: Random, row: Words) -> Words:
+    """The words of a row, some dropped from its end or some put there."""
+    lengths = [0, 1, len(row) // 2, len(row) - 1, len(row) + 1, len(row) + 2, 2 * len(row)]
+    length = rng.choice(lengths)
+    return (row + [0] * length)[:length]
+
+
+def one_wrong_length(rng: Random, buffers: list[Words]) -> list[Words]:
+    """The buffers, one of them with a wrong length."""
+    which = rng.randrange(len(buffers))
+    return [wrong_length(rng, words) if i == which else words for i, words in enumerate(buffers)]

@@ -1,0 +1,34 @@
+"""The rows that document 01 names."""
+
+from __future__ import annotations
+
+from rules import ROOT
+
+# "n=2: 3 2 2 65535 is valid. It is the only tree."
+ONLY_TREE_OF_2 = [3, 2, 2, ROOT]
+
+# Its rows of n=3, valid and not.
+ROWS_OF_3 = [
+    [5, 4, 4, 3, ROOT, 3],
+    [5, 3, 3, 4, 4, ROOT],
+    [4, 3, 3, 3, ROOT, 7],
+    [4, 3, 3, 3, ROOT, 0],
+    [5, 3, 3, 3, ROOT, 4],
+    [5, 4, 3, 3, ROOT, 3],
+    [5, 2, 3, 3, ROOT, 3],
+    [5, 4, 4, 3, ROOT, ROOT],
+    [3, 4, 4, 3, ROOT, 3],
+    [6, 4, 4, 3, ROOT, 3],
+]
+
+# "n=3, two runs holding {0,1} and {0,2}", and the tree that they agree on.
+WITH_01 = [5, 4, 4, 3, ROOT, 3]
+WITH_02 = [5, 4, 3, 4, ROOT, 3]
+BARE_3 = [4, 3, 3, 3, ROOT, 0]
+
+# The three runs of the listing.
+RUNS_OF_5 = [
+    [8, 7, 7, 6, 5, 5, ROOT, 5, 6, 0],
+    [8, 6, 6, 6, 7, 7, ROOT, 5, 5, 0],
+    [9, 7, 7, 5, 8, 8, ROOT, 5, 6, 6],
+]

@@ -1,0 +1,212 @@
+"""Holds the makers of test material against the rules; test_rules.py runs these tests too."""
+
+from __future__ import annotations
+
+from itertools import combinations, islice
+from random import Random
+
+import calls
+import calls_judge
+import material
+import rows
+import rules
+import sequences
+import shapes
+import studies
+from rules import ROOT
+
+EVERY_OP = [calls.OPEN, calls.ADD, calls.WITHDRAW, calls.REPORT]
+EVERY_OP += [calls.JUDGE, calls.RENUMBER, calls.COMPARE]
+
+# Trees and rows
+
+
+def test_number_of_trees() -> None:
+    """The rows that judging accepts make 1, 4 and 26 trees of 2, 3 and 4 samples."""
+    for n, trees in ((2, 1), (3, 4), (4, 26)):
+        in_range = [row for m in range(n + 1, 2 * n) for row in rows.rows_in_range(n, m)]
+        valid = [row for row in in_range if rules.judge(n, row).number == 0]
+        assert valid == rows.valid_rows(n)
+        assert len({rules.groups_of(n, row) for row in valid}) == trees
+        assert len({tuple(rules.renumber(n, row, row).buffers[1]) for row in valid}) == trees
+        assert len(set(rows.every_tree(n))) == len(rows.every_tree(n)) == trees
+
+
+def test_makers_make_trees() -> None:
+    """Trees of every shape, and their neighbours, are trees in every numbering."""
+    rng = Random(1)
+    for n in (2, 3, 4, 7, 12):
+        for shape in shapes.SHAPES * 5:
+            tree = shape(rng, n)
+            for other in (tree, *(move(rng, n, tree) for move in shapes.MOVES)):
+                for row in (rows.standard_row(n, other), rows.shuffled_row(rng, n, other)):
+                    assert rules.judge(n, row).number == 0
+                    assert rules.groups_of(n, row) == other
+                assert all(rules.agree(*pair) for pair in combinations(other, 2))
+
+
+def test_moves_move() -> None:
+    """A tree one move away is another tree, where there is one."""
+    rng = Random(2)
+    for n in (3, 5, 9):
+        for tree in (shapes.any_tree(rng, n) for _ in range(50)):
+            assert shapes.one_move(rng, n, tree) != tree
+
+
+# Runs
+
+
+def proper_holders(n: int, trees: list[rules.Tree]) -> list[int]:
+    """How many of the trees hold each group that is not trivial."""
+    holders = rules.holders_of(dict(enumerate(trees)))
+    return [held for group, held in holders.items() if 1 < len(group) < n]
+
+
+def test_runs_are_trees() -> None:
+    """Runs of every kind are as many trees as asked for."""
+    rng = Random(5)
+    for make in shapes.RUNS:
+        for n, k in ((2, 3), (3, 1), (6, 4), (9, 7)):
+            trees = make(rng, n, k)
+            assert len(trees) == k
+            assert all(rules.judge(n, rows.standard_row(n, tree)).number == 0 for tree in trees)
+
+
+def test_runs_near_half() -> None:
+    """Groups counted into runs are held by about half; of runs near a tree about half is shown."""
+    rng = Random(6)
+    for k in (1, 2, 5, 8):
+        held = proper_holders(9, shapes.runs_counted(rng, 9, k))
+        assert all(k // 2 - 1 <= count <= k // 2 + 2 for count in held)
+    held = [proper_holders(9, shapes.runs_halved(rng, 9, 8)) for _ in range(20)]
+    assert all(set(counts) <= {4, 8} for counts in held) and any(4 in counts for counts in held)
+    shown = common = 0
+    for _ in range(40):
+        tree = shapes.binary(rng, 14)
+        held = proper_holders(14, [shapes.near(rng, 14, tree, 5) for _ in range(9)])
+        shown += sum(2 * count > 9 for count in held)
+        common += len(shapes.proper_groups(tree))
+    assert 0.3 * common < shown < 0.8 * common
+
+
+# Studies
+
+
+def test_studies_are_well_formed() -> None:
+    """Studies of every kind are well formed; those with a change of any kind mostly are not."""
+    rng = Random(7)
+    for change in studies.CHANGES:
+        spoilt = 0
+        for n in (2, 3, 4, 5, 6) * 10:
+            words = studies.some_study(rng, n, 3)
+            assert rules.read_study(words) is not None
+            assert len(studies.identifiers(words)) == 3
+            spoilt += rules.read_study(change(rng, words)) is None
+        assert spoilt > 20, change.__name__
+
+
+def test_each_length() -> None:
+    """A study is well formed at just those lengths that have room for its runs and for one."""
+    rng = Random(8)
+    for k in (0, 1, 3):
+        words = studies.study_of(rng, 3, shapes.runs_apart(rng, 3, k), studies.length_for(3, 4))
+        lengths = list(studies.each_length(words))
+        assert {len(other) for other in lengths} >= {0, 7, 8, 14, 15, 16}
+        for other in lengths:
+            right = len(other) >= studies.length_for(3, max(1, k))
+            assert (rules.read_study(other) is not None) == right
+
+
+# Sequences
+
+
+def test_sequences_go_on() -> None:
+    """Each call is on the study that the one before left, or on a damaged copy of it."""
+    rng = Random(9)
+    for n, slots in ((2, 3), (3, 5), (6, 4)):
+        first, *others = sequences.sequence(rng, n, slots, 150)
+        words, on_copies = rules.open_study(n, first.buffers[0]).buffers[0], 0
+        for call in others:
+            if call.buffers[0] == words:
+                words = calls.answer(call).buffers[0]
+            else:
+                on_copies += 1
+        assert 0 < on_copies < 40
+
+
+def test_runs_in_force() -> None:
+    """An identifier is in force exactly if its last accepted call was an add, with its tree."""
+    rng = Random(10)
+    for n, slots in ((3, 6), (5, 4)):
+        words, in_force = rules.open_study(n, [9] * studies.length_for(n, slots)).buffers[0], {}
+        pool = studies.some_identifiers(rng, slots + 3)
+        for _ in range(200):
+            make = rng.choice([sequences.next_add, sequences.next_add, sequences.next_withdraw])
+            call = make(rng, words, pool)
+            answer = calls.answer(call)
+            if answer.number == 0 and call.op == calls.ADD:
+                in_force[call.x] = rules.groups_of(n, call.buffers[1])
+            elif answer.number == 0:
+                del in_force[call.x]
+            words = answer.buffers[0]
+            assert words == rules.write_study(len(words), rules.Study(n, in_force))
+
+
+def test_full_studies() -> None:
+    """The stored sequences fill studies of two samples and of 512, and go on after a withdrawal."""
+    answers = {(2, 1023): set(), (2, 1024): set(), (512, 30): set(), (512, 31): set()}
+    for call in sequences.in_sequences(calls.ADD):
+        n_and_k = tuple(call.buffers[0][4:6])
+        if n_and_k in answers:
+            answers[n_and_k].add(calls.answer(call).number)
+    assert list(answers.values()) == [{0}, {12}, {0}, {12}]
+
+
+# Calls
+
+
+def test_ops_of_material() -> None:
+    """Every op has material once."""
+    assert sorted(material.active() + [later.op for later in material.LATER]) == EVERY_OP
+    for one in material.MATERIAL + material.LATER:
+        made = [one.stored(Random(1)), one.random(Random(1))]
+        assert all(call.op == one.op for some in made for call in islice(some, 50))
+
+
+def test_numbers_of_calls() -> None:
+    """Random calls of each op give only the numbers that it can give, most of them soon."""
+    for op in EVERY_OP:
+        made = material.random_calls(Random(op), [op], 400)
+        came = {calls.answer(call).number for call in made}
+        assert came <= calls.NUMBERS[op] and len(came) >= len(calls.NUMBERS[op]) - 2
+
+
+def test_requests_are_read_back() -> None:
+    """Requests turned into bytes and back are the same calls."""
+    stored = list(material.stored_calls([calls.JUDGE]))
+    for made in (stored, list(material.random_calls(Random(11), EVERY_OP, 200))):
+        data = b"".join(calls.to_bytes(calls.request_words(call)) for call in made)
+        assert list(calls.read_requests(calls.from_bytes(data))) == made
+
+
+def test_bytes_of_a_request() -> None:
+    """A request and its reply, byte for byte."""
+    call = calls_judge.judge(3, [4, 3, 3, 3, ROOT, 7])
+    row = bytes([4, 0, 3, 0, 3, 0, 3, 0, 255, 255, 7, 0])
+    head = bytes([5, 0, 3, 0, 0, 0, 6, 0, 0, 0, 0, 0])
+    assert calls.to_bytes(calls.request_words(call)) == head + row
+    head = bytes([8, 0, 5, 0, 0, 0, 0, 0, 0, 0, 0, 0])
+    assert calls.to_bytes(calls.reply_words(calls.answer(call))) == head + row
+
+
+def test_bytes_of_three_buffers() -> None:
+    """A report's reply has the study and both outputs; a comparison's its counts."""
+    words = rules.add(rules.open_study(2, [9] * 13).buffers[0], 7, [3, 2, 2, ROOT]).buffers[0]
+    call = sequences.report(words, [1] * 4, [2] * 4)
+    assert calls.request_words(call) == [4, 0, 0, 13, 4, 4, *words, *[1] * 4, *[2] * 4]
+    reply = [0] * 6 + [*words, 3, 2, 2, ROOT, 1, 1, 1, 1]
+    assert calls.reply_words(calls.answer(call)) == reply
+    call = calls.Call(calls.COMPARE, 2, [[3, 2, 2, ROOT], [3, 2, 2, 2]])
+    assert calls.reply_words(calls.answer(call))[:6] == [7, 4, 0, 0, 0, 0]
+    call = calls.Call(calls.COMPARE, 2, [[3, 2, 2, ROOT], [3, 2, 2, ROOT]])
+    assert calls.reply_words(calls.answer(call))[:6] == [0, 0, 0, 3, 0, 0]
