@@ -37,13 +37,13 @@ MATERIAL = [
     Material(JUDGE, calls_judge.stored, endless(calls_judge.at_random)),
     Material(RENUMBER, calls_renumber.stored, endless(calls_renumber.at_random)),
     Material(COMPARE, calls_compare.stored, endless(calls_compare.at_random)),
+    Material(OPEN, calls_studies.stored_open, calls_studies.random_open),
+    Material(ADD, calls_studies.stored_add, calls_studies.random_add),
+    Material(WITHDRAW, calls_studies.stored_withdraw, calls_studies.random_withdraw),
 ]
 
 # Those whose calls are not stored yet: a line moved from here to there stores them.
 LATER = [
-    Material(OPEN, calls_studies.stored_open, calls_studies.random_open),
-    Material(ADD, calls_studies.stored_add, calls_studies.random_add),
-    Material(WITHDRAW, calls_studies.stored_withdraw, calls_studies.random_withdraw),
     Material(REPORT, calls_report.stored, calls_report.random),
 ]
 

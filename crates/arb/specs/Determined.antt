@@ -3,7 +3,9 @@ use Prim.Native.Nat.{ℕ}
 use mathlib.Core.Path.{_≡_, sym, _∙_}
 use mathlib.Core.List.{List}
 use Rattle.trees.specs.Checks.{judged}
+use Rattle.trees.specs.Outcomes.{Outcome}
 use Rattle.trees.specs.RowCalls.{renumbering, comparing}
+use Rattle.runs.specs.Calls.{opened, added, withdrawn}
 use Rattle.judge.specs.declared.Answer.{Answer}
 use Rattle.judge.specs.Verdicts.{verdict}
 use Rattle.judge.specs.VerdictLaws.{verdict-injective}
@@ -14,10 +16,27 @@ use Rattle.row.specs.ComparisonLaws.{comparison-injective}
 pub judge-determined : (n : ℕ) (row : List ℕ) (a b : Answer) → verdict a ≡ judged n row → verdict b ≡ judged n row → a ≡ b
 judge-determined n row a b p q = verdict-injective a b (p ∙ sym q)
 
+-- what an answer and words have to be, where a call leaves an outcome
+pub record Leaves (o : Outcome) (a : Answer) (w : List ℕ) : Type 0 where
+  pub answer : verdict a ≡ o .verdict
+  pub words : w ≡ o .words
+
+outcome-determined : (o : Outcome) (a b : Answer) (v w : List ℕ) → Leaves o a v → Leaves o b w → (a ≡ b) × (v ≡ w)
+outcome-determined o a b v w p q = (verdict-injective a b (p .answer ∙ sym (q .answer)), p .words ∙ sym (q .words))
+
+pub open-determined : (n : ℕ) (words : List ℕ) (a b : Answer) (v w : List ℕ) → Leaves (opened n words) a v → Leaves (opened n words) b w → (a ≡ b) × (v ≡ w)
+open-determined n words = outcome-determined (opened n words)
+
+pub add-determined : (words : List ℕ) (id : ℕ) (row : List ℕ) (a b : Answer) (v w : List ℕ)
+    → Leaves (added words id row) a v → Leaves (added words id row) b w → (a ≡ b) × (v ≡ w)
+add-determined words id row = outcome-determined (added words id row)
+
+pub withdraw-determined : (words : List ℕ) (id : ℕ) (a b : Answer) (v w : List ℕ) → Leaves (withdrawn words id) a v → Leaves (withdrawn words id) b w → (a ≡ b) × (v ≡ w)
+withdraw-determined words id = outcome-determined (withdrawn words id)
+
 pub renumber-determined : (n : ℕ) (row out : List ℕ) (a b : Answer) (v w : List ℕ)
-    → verdict a ≡ renumbering n row out .verdict → v ≡ renumbering n row out .words
-    → verdict b ≡ renumbering n row out .verdict → w ≡ renumbering n row out .words → (a ≡ b) × (v ≡ w)
-renumber-determined n row out a b v w p x q y = (verdict-injective a b (p ∙ sym q), x ∙ sym y)
+    → Leaves (renumbering n row out) a v → Leaves (renumbering n row out) b w → (a ≡ b) × (v ≡ w)
+renumber-determined n row out = outcome-determined (renumbering n row out)
 
 pub compare-determined : (n : ℕ) (first second : List ℕ) (a b : Comparison)
     → comparison a ≡ comparing n first second → comparison b ≡ comparing n first second → a ≡ b

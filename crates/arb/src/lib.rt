@@ -2,10 +2,35 @@
 ghost use mathlib.Core.Path.{_≡_};
 ghost use Rattle.trees.specs.Checks.{judged};
 ghost use Rattle.trees.specs.RowCalls.{renumbering, comparing};
+ghost use Rattle.runs.specs.Calls.{opened, added, withdrawn};
 ghost use Rattle.judge.specs.Verdicts.{verdict};
 ghost use Rattle.row.specs.Comparisons.{comparison};
 use judge::Answer;
 use row::Comparison;
+
+// Opening: an empty study over n samples, in words of any content; or a refusal that leaves them as they were.
+pub fn open(n: usize, words: &mut [u16]) -> Answer
+    ensures answer { λ r. ⌜ verdict r ≡ opened n (now (words .entry)) .verdict ⌝ }
+    ensures words { λ _. ⌜ now (words .exit) ≡ opened n (now (words .entry)) .words ⌝ }
+{
+    study::open(n, words)
+}
+
+// Adding: a run put into a study, its row in standard numbering; or a refusal that leaves the study as it was.
+pub fn add(words: &mut [u16], id: u16, row: &[u16]) -> Answer
+    ensures answer { λ r. ⌜ verdict r ≡ added (now (words .entry)) id (now (row .entry)) .verdict ⌝ }
+    ensures words { λ _. ⌜ now (words .exit) ≡ added (now (words .entry)) id (now (row .entry)) .words ⌝ }
+{
+    study::add(words, id, row)
+}
+
+// Withdrawing: a run taken out of a study; or a refusal that leaves the study as it was.
+pub fn withdraw(words: &mut [u16], id: u16) -> Answer
+    ensures answer { λ r. ⌜ verdict r ≡ withdrawn (now (words .entry)) id .verdict ⌝ }
+    ensures words { λ _. ⌜ now (words .exit) ≡ withdrawn (now (words .entry)) id .words ⌝ }
+{
+    study::withdraw(words, id)
+}
 
 // Judging: whether a row is one tree over n samples, or the number and the place of what is wrong with it. It writes nothing.
 pub fn judge(n: usize, row: &[u16]) -> Answer
@@ -16,8 +41,8 @@ pub fn judge(n: usize, row: &[u16]) -> Answer
 
 // Renumbering: a row in standard numbering, written to `out`; or a refusal that leaves `out` as it was.
 pub fn renumber(n: usize, row: &[u16], out: &mut [u16]) -> Answer
-    ensures { λ r. ⌜ verdict r ≡ renumbering n (now (row .entry)) (now (out .entry)) .verdict ⌝ }
-    ensures { λ _. ⌜ now (out .exit) ≡ renumbering n (now (row .entry)) (now (out .entry)) .words ⌝ }
+    ensures answer { λ r. ⌜ verdict r ≡ renumbering n (now (row .entry)) (now (out .entry)) .verdict ⌝ }
+    ensures words { λ _. ⌜ now (out .exit) ≡ renumbering n (now (row .entry)) (now (out .entry)) .words ⌝ }
 {
     row::renumber(n, row, out)
 }

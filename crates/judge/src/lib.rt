@@ -15,13 +15,17 @@ pub enum Answer {
     Refused(usize, usize),
 }
 
-// The numbers of the refusals that judging gives.
+// The numbers of the refusals.
 pub struct Refusal;
 
 impl Refusal {
     pub const SAMPLES: usize = 1;
 
+    pub const STUDY: usize = 2;
+
     pub const WORDS: usize = 3;
+
+    pub const IDENTIFIER: usize = 4;
 
     pub const NODES: usize = 5;
 
@@ -34,6 +38,14 @@ impl Refusal {
     pub const LOST: usize = 9;
 
     pub const CHILDREN: usize = 10;
+
+    pub const TAKEN: usize = 11;
+
+    pub const FULL: usize = 12;
+
+    pub const ABSENT: usize = 13;
+
+    pub const EMPTY: usize = 14;
 }
 
 // "Samples n: 2 to 512"
@@ -71,7 +83,7 @@ pub fn parent(row: &[u16], v: usize) -> usize
 }
 
 // A line of the table whose place is 0: refused with its number where it applies.
-fn line(number: usize, applies: bool) -> Answer
+pub fn line(number: usize, applies: bool) -> Answer
     ensures { λ r. ⌜ verdict r ≡ asked (line number applies) ⌝ }
 {
     if applies {
@@ -88,7 +100,7 @@ pub fn samples(n: usize) -> Answer
 }
 
 // Check 3: "a row .. is not 2n words".
-fn words(n: usize, row: &[u16]) -> Answer
+pub fn words(n: usize, row: &[u16]) -> Answer
     requires { ⌜ n ≤ mostSamples ⌝ }
     ensures { λ r. ⌜ verdict r ≡ asked (check3 n (now (row .entry))) ⌝ }
 {

@@ -1,5 +1,8 @@
 // The calls by number: what a request asks for, and what its reply says.
 //
+//     1 open       x = n           a the study
+//     2 add        x = identifier  a the study, b the row
+//     3 withdraw   x = identifier  a the study
 //     5 judge      x = n           a the row
 //     6 renumber   x = n           a the row, b the new row
 //     7 compare    x = n           a the first row, b the second
@@ -10,6 +13,12 @@ use judge::Answer;
 use row::Comparison;
 ghost use mathlib.Core.Path.{_≡_};
 ghost use Rattle.replay.specs.Calls.{headOf, plainReply, replyTo, replyCounts, replyWords};
+
+const OP_OPEN: u16 = 1;
+
+const OP_ADD: u16 = 2;
+
+const OP_WITHDRAW: u16 = 3;
 
 const OP_JUDGE: u16 = 5;
 
@@ -46,11 +55,29 @@ pub enum Outcome {
 pub fn called(head: Head, a: &mut [u16], b: &mut [u16], c: &mut [u16]) -> Outcome {
     let op = head.op;
     match op {
+        OP_OPEN => Outcome::Told(opened(head, a)),
+        OP_ADD => Outcome::Told(added(head, a, b)),
+        OP_WITHDRAW => Outcome::Told(withdrawn(head, a)),
         OP_JUDGE => Outcome::Told(judged(head, a)),
         OP_RENUMBER => Outcome::Told(renumbered(head, a, b)),
         OP_COMPARE => Outcome::Told(compared(head, a, b)),
         _ => Outcome::Unknown,
     }
+}
+
+// The reply to opening the study a.
+fn opened(head: Head, a: &mut [u16]) -> Reply {
+    reply_to(arb::open(wide(head.x), a))
+}
+
+// The reply to adding the row b to the study a.
+fn added(head: Head, a: &mut [u16], b: &[u16]) -> Reply {
+    reply_to(arb::add(a, head.x, b))
+}
+
+// The reply to withdrawing from the study a.
+fn withdrawn(head: Head, a: &mut [u16]) -> Reply {
+    reply_to(arb::withdraw(a, head.x))
 }
 
 // The reply to judging the row a.

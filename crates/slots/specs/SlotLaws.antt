@@ -1,0 +1,47 @@
+-- Where slots end, in what order they stand, and what a well-formed study has room for. Assumes nothing.
+use Prim.Native.Nat.{ℕ, suc, _+_, _<_, _≤_}
+use mathlib.Core.Path.{_≡_}
+use mathlib.Core.List.{List}
+use mathlib.Core.Bool.{false}
+use native.Mathlib.Nat.{mul-le-mul-right}
+use native.Mathlib.Numerals.{add-one}
+use native.Mathlib.Omega.{arith}
+use lib.ListN.{length}
+use borrow.Author.Tests.{eqb-false}
+use Rattle.runs.specs.Words.{samples, inForce, headerWords, slotWords, slotStart, mostRuns, capacity}
+use Rattle.runs.specs.Formed.{Formed}
+use Rattle.runs.specs.WordLaws.{capacity-most, capacity-room, slot-next}
+use Rattle.slots.specs.Slots.{full}
+
+-- a slot ends within the words that have those behind it
+pub slot-within : (n i k len : ℕ) → i < k → slotStart n k ≤ len → slotStart n i + slotWords n ≤ len
+slot-within n i k len h l = omega (arith, slot-next n i, mul-le-mul-right (slotWords n) h)
+
+-- slots stand in the order of their numbers
+pub slot-order : (n i k : ℕ) → i ≤ k → slotStart n i ≤ slotStart n k
+slot-order n i k h = omega (arith, mul-le-mul-right (slotWords n) h)
+
+pub slot-after : (n i : ℕ) → slotStart n (i + 1) ≡ slotStart n i + slotWords n
+slot-after n i = rw add-one (slot-next n i)
+
+-- ---- what a well-formed study has room for
+
+module _ {w : List ℕ} (f : Formed w) where
+  pub formed-long : headerWords ≤ length w
+  formed-long = omega (arith, capacity-room (length w) (samples w) (inForce w) (f .one) (f .fits))
+
+module _ (w : List ℕ) (f : Formed w) where
+  pub formed-fits : slotStart (samples w) (inForce w) ≤ length w
+  formed-fits = capacity-room (length w) (samples w) (inForce w) (f .one) (f .fits)
+
+  pub formed-few : inForce w ≤ mostRuns
+  formed-few = omega (arith, f .fits, capacity-most (length w) (samples w))
+
+  -- where it is not full, for one slot more
+  pub next-fits : full w ≡ false → (inForce w < mostRuns) × (slotStart (samples w) (inForce w) + slotWords (samples w) ≤ length w)
+  next-fits e =
+      let d : inForce w ≡ capacity (length w) (samples w) → ⊥ = eqb-false (inForce w) (capacity (length w) (samples w)) e in
+      let c : inForce w < capacity (length w) (samples w) = omega (arith, f .fits) in (
+        omega (arith, capacity-most (length w) (samples w)),
+        omega (arith, slot-next (samples w) (inForce w), capacity-room (length w) (samples w) (suc (inForce w)) (f .one) c),
+      )

@@ -1,0 +1,54 @@
+// The checks of opening, adding and withdrawing that come before the slots are looked at, each an answer.
+use crate::form::well_formed;
+use judge::Answer;
+use judge::Refusal;
+use judge::check_row;
+use judge::line;
+use slots::Header;
+ghost use mathlib.Core.Path.{_≡_};
+ghost use Prim.Native.Nat.{_≤_};
+ghost use Rattle.trees.specs.Checks.{accepted, _⊳_, asked, fewestSamples, mostSamples};
+ghost use Rattle.runs.specs.Calls.{check2, check4, openChecks};
+ghost use Rattle.judge.specs.Verdicts.{verdict};
+ghost use Rattle.study.specs.Adding.{givenChecks};
+
+// Check 2: "the study handed in is not well formed".
+pub(crate) fn study_given(words: &[u16]) -> Answer
+    ensures { λ r. ⌜ verdict r ≡ asked (check2 (now (words .entry))) ⌝ }
+{
+    line(Refusal::STUDY, !well_formed(words))
+}
+
+// Check 4: "identifier 0".
+pub(crate) fn identifier_given(id: u16) -> Answer
+    ensures { λ r. ⌜ verdict r ≡ asked (check4 id) ⌝ }
+{
+    line(Refusal::IDENTIFIER, id == 0)
+}
+
+// Checks 1 and 3 of opening: n, and "at opening, capacity is below 1".
+pub(crate) fn room_given(n: usize, words: &[u16]) -> Answer
+    ensures { λ r. ⌜ verdict r ≡ openChecks n (now (words .entry)) ⊳ accepted ⌝ }
+{
+    let a = judge::samples(n);
+    let Answer::Accepted = a else {
+        return a;
+    };
+    line(Refusal::WORDS, Header::capacity(words.len(), n) < 1)
+}
+
+// Checks 3, 4 and 5 to 10 of adding, of what is given with the study.
+pub(crate) fn run_given(n: usize, id: u16, row: &[u16]) -> Answer
+    requires { ⌜ (fewestSamples ≤ n) × (n ≤ mostSamples) ⌝ }
+    ensures { λ r. ⌜ verdict r ≡ givenChecks n id (now (row .entry)) ⊳ accepted ⌝ }
+{
+    let a = judge::words(n, row);
+    let Answer::Accepted = a else {
+        return a;
+    };
+    let a = identifier_given(id);
+    let Answer::Accepted = a else {
+        return a;
+    };
+    check_row(n, row)
+}
