@@ -1,3 +1,4 @@
 pub mod Determined
+pub mod Demand3
 pub mod Specimens
 pub mod SpecimenLaws
