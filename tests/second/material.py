@@ -40,12 +40,11 @@ MATERIAL = [
     Material(OPEN, calls_studies.stored_open, calls_studies.random_open),
     Material(ADD, calls_studies.stored_add, calls_studies.random_add),
     Material(WITHDRAW, calls_studies.stored_withdraw, calls_studies.random_withdraw),
+    Material(REPORT, calls_report.stored, calls_report.random),
 ]
 
 # Those whose calls are not stored yet: a line moved from here to there stores them.
-LATER = [
-    Material(REPORT, calls_report.stored, calls_report.random),
-]
+LATER: list[Material] = []
 
 SEED = 20250  # with the op's number added, so that no op's calls hang on another's
 

@@ -5,7 +5,9 @@ use mathlib.Core.List.{List}
 use Rattle.trees.specs.Checks.{judged}
 use Rattle.trees.specs.Outcomes.{Outcome}
 use Rattle.trees.specs.RowCalls.{renumbering, comparing}
+use Rattle.trees.specs.Reporting.{majority}
 use Rattle.runs.specs.Calls.{opened, added, withdrawn}
+use Rattle.runs.specs.Reports.{Report, reported}
 use Rattle.judge.specs.declared.Answer.{Answer}
 use Rattle.judge.specs.Verdicts.{verdict}
 use Rattle.judge.specs.VerdictLaws.{verdict-injective}
@@ -41,3 +43,13 @@ renumber-determined n row out = outcome-determined (renumbering n row out)
 pub compare-determined : (n : ℕ) (first second : List ℕ) (a b : Comparison)
     → comparison a ≡ comparing n first second → comparison b ≡ comparing n first second → a ≡ b
 compare-determined n first second a b p q = comparison-injective a b (p ∙ sym q)
+
+-- what an answer and two rows have to be, where a report leaves them
+pub record Reports (o : Report) (a : Answer) (agreed support : List ℕ) : Type 0 where
+  pub answer : verdict a ≡ o .verdict
+  pub row : agreed ≡ o .agreedRow
+  pub supports : support ≡ o .supportRow
+
+pub report-determined : (words x y : List ℕ) (a b : Answer) (r s q t : List ℕ)
+    → Reports (reported majority words x y) a r s → Reports (reported majority words x y) b q t → (a ≡ b) × (r ≡ q) × (s ≡ t)
+report-determined words x y a b r s q t m k = (verdict-injective a b (m .answer ∙ sym (k .answer)), m .row ∙ sym (k .row), m .supports ∙ sym (k .supports))

@@ -3,6 +3,7 @@
 //     1 open       x = n           a the study
 //     2 add        x = identifier  a the study, b the row
 //     3 withdraw   x = identifier  a the study
+//     4 report                     a the study, b the agreed row, c the support
 //     5 judge      x = n           a the row
 //     6 renumber   x = n           a the row, b the new row
 //     7 compare    x = n           a the first row, b the second
@@ -19,6 +20,8 @@ const OP_OPEN: u16 = 1;
 const OP_ADD: u16 = 2;
 
 const OP_WITHDRAW: u16 = 3;
+
+const OP_REPORT: u16 = 4;
 
 const OP_JUDGE: u16 = 5;
 
@@ -58,6 +61,7 @@ pub fn called(head: Head, a: &mut [u16], b: &mut [u16], c: &mut [u16]) -> Outcom
         OP_OPEN => Outcome::Told(opened(head, a)),
         OP_ADD => Outcome::Told(added(head, a, b)),
         OP_WITHDRAW => Outcome::Told(withdrawn(head, a)),
+        OP_REPORT => Outcome::Told(reported(a, b, c)),
         OP_JUDGE => Outcome::Told(judged(head, a)),
         OP_RENUMBER => Outcome::Told(renumbered(head, a, b)),
         OP_COMPARE => Outcome::Told(compared(head, a, b)),
@@ -78,6 +82,11 @@ fn added(head: Head, a: &mut [u16], b: &[u16]) -> Reply {
 // The reply to withdrawing from the study a.
 fn withdrawn(head: Head, a: &mut [u16]) -> Reply {
     reply_to(arb::withdraw(a, head.x))
+}
+
+// The reply to reporting the study a in b and c.
+fn reported(a: &[u16], b: &mut [u16], c: &mut [u16]) -> Reply {
+    reply_to(arb::report(a, b, c))
 }
 
 // The reply to judging the row a.

@@ -1,12 +1,12 @@
 -- How an answer passes along the checks of a call, what an acceptance tells, and the words that a call leaves. Assumes nothing.
-use Prim.Native.Nat.{ℕ, _+_, _≤_, _<_}
+use Prim.Native.Nat.{ℕ, _+_, _≤_}
 use mathlib.Core.Path.{_≡_, sym, ap, _∙_}
 use mathlib.Core.List.{List, [], _∷_, _++_}
 use mathlib.Core.Bool.{true, false, not}
 use native.Mathlib.Omega.{arith}
 use lib.Dec.{eqb}
 use lib.ListN.{length}
-use borrow.Author.Tests.{eqb-true, eqb-false, not-false}
+use borrow.Author.Tests.{eqb-true, not-false}
 use Rattle.trees.specs.Lists.{nowhere}
 use Rattle.trees.specs.Checks.{Verdict, accepted, refused, Check, _⊳_, asked, fewestSamples, mostSamples, rowWords, outside, check1, check3, rowChecks, judgeChecks, judged}
 use Rattle.trees.specs.Valid.{Valid}
@@ -14,7 +14,7 @@ use Rattle.trees.specs.ChainLaws.{chain-append, passed-chain, chain-passed, cha
 use Rattle.trees.specs.CheckLaws.{outside-not, not-outside}
 use Rattle.trees.specs.ValidLaws.{judged-valid}
 use Rattle.runs.specs.Runs.{isSome, present, deleteRun}
-use Rattle.runs.specs.Words.{samples, inForce, headerWords, runs, encode, capacity}
+use Rattle.runs.specs.Words.{samples, headerWords, runs, encode}
 use Rattle.runs.specs.Formed.{wellFormed, Formed}
 use Rattle.trees.specs.Outcomes.{Outcome, outcome}
 use Rattle.runs.specs.Calls.{check2, check4, check11, check12, check13, openChecks, opened, addFormedChecks, addChecks, runsWith, added, withdrawFormedChecks, withdrawChecks, withdrawn}

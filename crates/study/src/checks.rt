@@ -13,7 +13,7 @@ ghost use Rattle.judge.specs.Verdicts.{verdict};
 ghost use Rattle.study.specs.Adding.{givenChecks};
 
 // Check 2: "the study handed in is not well formed".
-pub(crate) fn study_given(words: &[u16]) -> Answer
+pub fn study_given(words: &[u16]) -> Answer
     ensures { λ r. ⌜ verdict r ≡ asked (check2 (now (words .entry))) ⌝ }
 {
     line(Refusal::STUDY, !well_formed(words))

@@ -8,4 +8,5 @@ pub use calls::add_formed;
 pub use calls::open;
 pub use calls::withdraw;
 pub use calls::withdraw_formed;
+pub use checks::study_given;
 pub use form::well_formed;

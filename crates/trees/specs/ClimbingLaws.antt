@@ -170,8 +170,8 @@ module _ {n : ℕ} {r : List ℕ} (std : Standard n r) where
 
   -- ---- the number of the nearest kept node
 
-  pub raising-start : {num : List ℕ} → length num ≡ tableWords → Raising n r num (n + 1) num
-  raising-start l = record { words = l; root = refl; next = λ u a h. absurd (omega arith); rest = λ u a. refl }
+  pub raising-start : {num : List ℕ} {v : ℕ} → length num ≡ tableWords → v ≤ n + 1 → Raising n r num v num
+  raising-start l h = record { words = l; root = refl; next = λ u a k. absurd (omega arith); rest = λ u a. refl }
 
   pub raising-step : {num up : List ℕ} {v x : ℕ} → Raising n r num v up → n < v → v < nodes r → x ≡ cond (eqb (entry up v) 0) (entry up (parent r v)) (entry up v) → Raising n r num (v + 1) (set up v x)
   raising-step {num} {up} {v} {x} t a h e = record {

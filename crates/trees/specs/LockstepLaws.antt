@@ -9,7 +9,7 @@ use native.Mathlib.Omega.{arith}
 use lib.Dec.{ltb}
 use lib.ListN.{length, drop, set, length-drop, length-set}
 use lib.Seq.{drop-cons}
-use borrow.Author.Tests.{ltb-true, ltb-false, lt-ltb, le-ltb, le-leb, lt-leb}
+use borrow.Author.Tests.{ltb-true, ltb-false, leb-true, lt-ltb, le-ltb, le-leb, lt-leb}
 use Rattle.trees.specs.Groups.{Group, size, lowest, same, before, member}
 use Rattle.trees.specs.Rows.{nodes, groupAt}
 use Rattle.trees.specs.Valid.{In, Strict, Standard}
@@ -204,7 +204,7 @@ module _ {n : ℕ} {a : List ℕ} {keepA : List Bool} {b : List ℕ} {keepB : Li
 
   module _ {numA numB mins : List ℕ} {x y c : ℕ} (lock : Lock n a keepA b keepB numA numB mins x y c) where
     -- there is room for c where a group is left
-    pub lock-room : (g : Group) (zs : List Group) → drop (c - n) gs ≡ g ∷ zs → c < n + length gs
+    lock-room : (g : Group) (zs : List Group) → drop (c - n) gs ≡ g ∷ zs → c < n + length gs
     lock-room g zs e = omega (arith, drop-head gs (c - n) g zs e .0, lock .least)
 
     next-place : (g : Group) (zs : List Group) → drop (c - n) gs ≡ g ∷ zs → placeIn g gs ≡ c - n
@@ -293,17 +293,23 @@ module _ {n : ℕ} {a : List ℕ} {keepA : List Bool} {b : List ℕ} {keepB : Li
       -- which nodes there are
 
       module _ (left : ltb x (nodes a) || ltb y (nodes b) ≡ true) where
-        pub first-there : p ≤ q → x < nodes a
+        first-there : p ≤ q → x < nodes a
         first-there e = ⊎-elim (λ h. ltb-true x (nodes a) h)
             (λ h. let k = ltb-true y (nodes b) h in rank-node (ok .first) keepA za la x (omega (arith, rank-in (ok .second) keepB kb y (lock .right .low) k, rank-short (ok .second) keepB y (lock .right .low) k)))
             (or-cases (ltb x (nodes a)) (ltb y (nodes b)) left)
 
-        pub second-there : q ≤ p → y < nodes b
+        second-there : q ≤ p → y < nodes b
         second-there e = ⊎-elim (λ h. let k = ltb-true x (nodes a) h in rank-node (ok .second) keepB zb lb y (omega (arith, rank-in (ok .first) keepA ka x (lock .left .low) k, rank-short (ok .first) keepA x (lock .left .low) k)))
             (λ h. ltb-true y (nodes b) h)
             (or-cases (ltb x (nodes a)) (ltb y (nodes b)) left)
 
-        pub number-left : c < n + length gs
+        pub first-taken : {first second : Bool} {low : ℕ} → Chosen p q first second low → first ≡ true → x < nodes a
+        first-taken t e = first-there (leb-true p q (sym (t .left) ∙ e))
+
+        pub second-taken : {first second : Bool} {low : ℕ} → Chosen p q first second low → second ≡ true → y < nodes b
+        second-taken t e = second-there (leb-true q p (sym (t .right) ∙ e))
+
+        number-left : c < n + length gs
         number-left = elim (tri p q) [
           | less e ↦ lock-room ga _ (head-first e (first-there (omega arith)))
           | equal e ↦ lock-room ga _ (head-both e (first-there (omega arith)) (second-there (omega arith)))

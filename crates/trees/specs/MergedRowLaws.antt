@@ -18,7 +18,7 @@ use Rattle.trees.specs.Numbering.{lastWith, rowOf}
 use Rattle.trees.specs.Tables.{Tabled, entry}
 use Rattle.trees.specs.Merging.{flagged, kept, merged, Mergeable}
 use Rattle.trees.specs.Lockstep.{placeIn, numberAt, lowOf, Numbered}
-use Rattle.trees.specs.Climbing.{Raised, nearest, parentOf, wordOf, Climbable}
+use Rattle.trees.specs.Climbing.{Raised, parentOf, wordOf, Climbable}
 use Rattle.trees.specs.BoolLaws.{or-cases, not-yes, decide}
 use Rattle.trees.specs.GroupLaws.{has-whole}
 use Rattle.trees.specs.MemberLaws.{nth, in-at}

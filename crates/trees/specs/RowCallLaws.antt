@@ -84,12 +84,6 @@ movedVerdict d accepted = accepted
 movedVerdict d (refused k p) = refused k (p + d)
 movedVerdict d (counted a b c) = counted a b c
 
--- a verdict whose place has room for d more
-abbrev pub Moves : Verdict → ℕ → Type 0
-Moves accepted d = Unit {0}
-Moves (refused k p) d = p + d < 18446744073709551616
-Moves (counted a b c) d = Unit {0}
-
 -- the second row's checks answer as those of a row alone, with the places moved
 pub chain-moved : (d : ℕ) (cs : List Check) → map (moved d) cs ⊳ accepted ≡ movedVerdict d (cs ⊳ accepted)
 unfolding _⊳_

@@ -1,10 +1,9 @@
 -- `slots::put_run` meets its contract. Assumes nothing.
-use mathlib.Core.Path.{ap}
-use Prim.Native.Nat.{ℕ, suc}
+use mathlib.Core.Path.{_≡_, ap, _∙_}
+use Prim.Native.Nat.{ℕ, suc, _+_}
 use native.Mathlib.Omega.{arith}
 use denote.Ref.{now}
 use mathlib.Core.List.{List}
-use native.Mathlib.Numerals.{add-one}
 use lib.ListN.{set}
 use Rattle.runs.specs.Words.{samples, inForce, inForceAt}
 use Rattle.slots.specs.SlotLaws.{formed-long, formed-fits, formed-few, next-fits, slot-order}
@@ -42,11 +41,10 @@ put-at-requires c κs =
     let w = now (a .words) in
     let n : tie.After-samples = search needs in
     let k : tie.After-in-force = search needs in
-    let from : tie.After-slot-start = search needs in
     let to : tie.After-slot-start2 = search needs in
-    let r = next-fits w (st .pre .0) (st .pre .2) in
-    rw (from .slot-start .ensures, to .slot-start2 .ensures, n .samples .ensures, k .in-force .ensures)
-    (slot-order (samples w) (a .at) (inForce w) (st .pre .1), r .1, st .pre .3)
+    let room = next-fits w (st .pre .0) (st .pre .2) in
+    let order = slot-order (n .samples .result) (a .at) (k .in-force .result) (omega (arith, k .in-force .ensures)) in
+    (omega (arith, order), rw (to .slot-start2 .ensures, n .samples .ensures, k .in-force .ensures) (room .1), rw (n .samples .ensures) (st .pre .3))
 
 add-words : tie.Need-add-words
 add-words c = search needs
@@ -81,7 +79,8 @@ returns c =
     let to : tie.After-slot-start2 = search needs in
     let p : tie.After-put-at = search needs in
     let e = rw (from .slot-start .ensures, to .slot-start2 .ensures, n .samples .ensures, k .in-force .ensures) at (p .put-at .ensures) in
-    rw (k .in-force .ensures, add-one) (ap (λ (ws : List ℕ). set ws inForceAt (suc (inForce w))) e)
+    let more : k .in-force .result + 1 ≡ suc (inForce w) = omega (arith, k .in-force .ensures) in
+    ap (λ (j : ℕ). set (p .put-at .last .0) inForceAt j) more ∙ ap (λ (ws : List ℕ). set ws inForceAt (suc (inForce w))) e
 
 pub put-run-spec : {M : Type 1} → statement M
 put-run-spec =

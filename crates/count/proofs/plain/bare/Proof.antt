@@ -1,0 +1,76 @@
+-- `count::plain::bare` writes word by word. Assumes nothing.
+use Prim.Native.Nat.{ℕ, _-_, _≤_}
+use mathlib.Core.Path.{_≡_, sym, _∙_}
+use native.Mathlib.Omega.{arith}
+use lib.ListN.{length, getD, length-set}
+use Rattle.trees.specs.Checks.{rowWords}
+use Rattle.trees.specs.Tables.{Tabled}
+use Rattle.trees.specs.TableLaws.{tabled-more, tabled-none}
+use Rattle.count.specs.TakingLaws.{tabled-words, bareRow, bare-length}
+use borrow.Author.Needs.{needs}
+use Rattle.count.proofs.plain.bare.Statement.{statement}
+use Rattle.count.proofs.plain.bare.Tie as tie
+
+abbrev Inv-loop : tie.InvT-loop
+Inv-loop n out₀ w₀ out w = Tabled (λ u. getD (bareRow n) u 0) 0 w out × (length out ≡ rowWords n) × (w ≤ rowWords n)
+
+abbrev μ-loop : tie.MeasureT-loop
+μ-loop n out₀ w₀ out w = length out - w
+
+loop-holds : tie.Need-loop-holds Inv-loop μ-loop
+loop-holds c =
+    let st : tie.Start Inv-loop μ-loop = search needs in
+    (tabled-none _ 0 _, st .pre .2, omega arith)
+
+bare-word-requires : tie.Need-bare-word-requires Inv-loop μ-loop
+bare-word-requires c κs = search needs
+
+mul-out : tie.Need-mul-out Inv-loop μ-loop
+mul-out c = search needs
+
+slice-write-out : tie.Need-slice-write-out Inv-loop μ-loop
+slice-write-out c = search needs
+
+add-w : tie.Need-add-w Inv-loop μ-loop
+add-w c = search needs
+
+loop-less : tie.Need-loop-less Inv-loop μ-loop
+loop-less c =
+    let l : tie.At-loop Inv-loop μ-loop = search needs in
+    rw length-set (omega (arith, l .loop .inv .1))
+
+loop-again : tie.Need-loop-again Inv-loop μ-loop
+loop-again c =
+    let l : tie.At-loop Inv-loop μ-loop = search needs in
+    (tabled-more _ 0 (l .loop .w) _ (l .loop .out) (l .loop .inv .0) (omega arith) (c .bare-word .ensures), length-set (l .loop .out) (l .loop .w) _ ∙ l .loop .inv .1, omega (arith, l .loop .inv .1))
+
+same-length : tie.Need-same-length Inv-loop μ-loop
+same-length c =
+    let st : tie.Start Inv-loop μ-loop = search needs in
+    let l : tie.At-loop Inv-loop μ-loop = search needs in
+    l .loop .inv .1 ∙ sym (st .pre .2)
+
+returns : tie.Need-returns Inv-loop μ-loop
+returns c =
+    let st : tie.Start Inv-loop μ-loop = search needs in
+    let l : tie.At-loop Inv-loop μ-loop = search needs in
+    let n : ℕ = st .args .n in
+    let b : length (bareRow n) ≡ rowWords n = bare-length n (st .pre .0) in
+    let e : l .loop .w ≡ length (bareRow n) = omega (arith, l .loop .inv .1) in
+    tabled-words (bareRow n) (l .loop .out) (l .loop .inv .1 ∙ sym b) (rw e at (l .loop .inv .0))
+
+pub bare-spec : {M : Type 1} → statement M
+bare-spec =
+    tie.close
+    (tie.spec
+    Inv-loop
+    μ-loop
+    loop-holds
+    bare-word-requires
+    mul-out
+    slice-write-out
+    add-w
+    loop-less
+    loop-again
+    same-length
+    returns)

@@ -1,0 +1,6 @@
+pub mod Studies
+pub mod StudyLaws
+pub mod Holders
+pub mod HolderLaws
+pub mod TakingLaws
+pub mod PlainLaws

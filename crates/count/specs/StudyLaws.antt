@@ -1,0 +1,46 @@
+-- The runs of a study: as many as its header says, each where it stands in the words, each standard. Assumes nothing.
+use Prim.Native.Nat.{ℕ, suc, _+_, _≤_, _<_}
+use mathlib.Core.Path.{_≡_, sym, ap, subst, _∙_}
+use mathlib.Core.List.{List, List·Memᴰ}
+use native.Mathlib.Nat.{zero-add}
+use native.Mathlib.Omega.{arith}
+use lib.ListN.{length, getD}
+use Rattle.trees.specs.Checks.{fewestSamples, mostSamples}
+use Rattle.trees.specs.Valid.{Standard}
+use Rattle.trees.specs.Reporting.{Run}
+use Rattle.trees.specs.ListLaws.{getD-tabulate}
+use Rattle.runs.specs.Words.{samples, inForce, slotStart, slotWords, runAt, runs, mostRuns}
+use Rattle.runs.specs.WordLaws.{capacity-most, capacity-room, slot-next, length-runs, member-at}
+use Rattle.count.specs.Studies.{Study, rowAt}
+
+module _ (w : List ℕ) (n k : ℕ) (study : Study w n k) where
+  pub study-least : fewestSamples ≤ n
+  study-least = rw (study .over) (study .formed .least)
+
+  pub study-most : n ≤ mostSamples
+  study-most = rw (study .over) (study .formed .most)
+
+  pub study-few : k ≤ mostRuns
+  study-few = omega (arith, study .force, study .formed .fits, capacity-most (length w) (samples w))
+
+  pub study-length : length (runs w) ≡ k
+  study-length = length-runs w ∙ sym (study .force)
+
+  pub study-room : (j : ℕ) → j < k → slotStart n j + slotWords n ≤ length w
+  study-room j h = rw (study .over) (omega (
+    arith,
+    capacity-room (length w) (samples w) (suc j) (study .formed .one) (omega (arith, study .force, study .formed .fits)),
+    slot-next (samples w) j,
+  ))
+
+  pub study-run : (j : ℕ) (d : Run) → j < k → getD (runs w) j d ≡ runAt n w j
+  unfolding runs
+  study-run j d h = rw (study .over)
+      (getD-tabulate (inForce w) (runAt (samples w) w) 0 j d (omega (arith, study .force)) ∙ ap (runAt (samples w) w) (zero-add j))
+
+  pub study-all : (run : Run) → List·Memᴰ run (runs w) → Standard n (run .row)
+  study-all run m = rw (study .over) (study .formed .stored run m .standard)
+
+  pub study-standard : (j : ℕ) → j < k → Standard n (rowAt n w j)
+  study-standard j h = let d : Run = runAt n w j in
+      subst (λ (run : Run). Standard n (run .row)) (study-run j d h) (study-all (getD (runs w) j d) (member-at (runs w) j d (rw study-length h)))

@@ -1,0 +1,96 @@
+// The plain count: the agreed row, by merging what is shown of one run after another.
+ghost use mathlib.Core.Path.{_≡_};
+ghost use Prim.Native.Nat.{ℕ, _+_, _*_, _/_, _<_, _≤_};
+ghost use lib.ListN.{length, getD};
+ghost use Rattle.trees.specs.Checks.{fewestSamples, mostSamples, rowWords};
+ghost use Rattle.trees.specs.Reporting.{majority, agreed, references};
+ghost use Rattle.runs.specs.Words.{runs, mostRuns};
+ghost use Rattle.count.specs.Studies.{Study};
+ghost use Rattle.count.specs.TakingLaws.{bareRow};
+ghost use Rattle.count.specs.PlainLaws.{accepted};
+use crate::holding::holders;
+use crate::holding::run_row;
+use crate::rule::marks;
+use judge::nodes;
+use merge::merge;
+use passes::TABLE;
+
+// "65535 means that v is the root"
+const ROOT_MARK: u16 = 65535;
+
+// Word w of the row whose one inner node is the root.
+fn bare_word(n: usize, w: usize) -> u16
+    requires { ⌜ n ≤ mostSamples ⌝ }
+    ensures { λ r. ⌜ r ≡ getD (bareRow n) w 0 ⌝ }
+{
+    if w == 0 {
+        return (n + 1) as u16;
+    }
+    if w <= n {
+        return n as u16;
+    }
+    if w == n + 1 {
+        return ROOT_MARK;
+    }
+    0
+}
+
+// Writes that row.
+fn bare(n: usize, out: &mut [u16])
+    requires { ⌜ (fewestSamples ≤ n) × (n ≤ mostSamples) × (length (now out) ≡ rowWords n) ⌝ }
+    ensures { λ _. ⌜ now (out .exit) ≡ bareRow n ⌝ }
+{
+    let mut w = 0;
+    while w < out.len() {
+        out[w] = bare_word(n, w);
+        w += 1;
+    }
+}
+
+// Copies all words.
+fn copy(from: &[u16], to: &mut [u16])
+    requires { ⌜ length (now to) ≡ length (now from) ⌝ }
+    ensures { λ _. ⌜ now (to .exit) ≡ now (from .entry) ⌝ }
+{
+    let mut i = 0;
+    while i < to.len() {
+        to[i] = from[i];
+        i += 1;
+    }
+}
+
+// Merges what is shown of run i into what is accepted.
+fn take_in(n: usize, words: &[u16], k: usize, i: usize, out: &mut [u16], spare: &mut [u16])
+    requires { ⌜ Study (now words) n k × (i < k) × (now out ≡ accepted n (now words) i) × (length (now spare) ≡ rowWords n) ⌝ }
+    ensures { λ _. ⌜ now (out .exit) ≡ accepted n (now (words .entry)) (i + 1) ⌝ }
+{
+    let mut held: [u16; TABLE] = [0; TABLE];
+    let mut keep: [bool; TABLE] = [false; TABLE];
+    let row = run_row(n, words, i);
+    holders(n, words, k, row, &mut held);
+    marks(n, nodes(row), k, &held, &mut keep);
+    merge(n, out, &[true; TABLE], row, &keep, spare);
+    copy(spare, out);
+}
+
+// How many runs are tried: a group that more than half of k runs hold is held by one of them.
+fn references(k: usize) -> usize
+    requires { ⌜ k ≤ mostRuns ⌝ }
+    ensures { λ r. ⌜ r ≡ references k ⌝ }
+{
+    (k + 1) / 2
+}
+
+// The agreed row; `spare` is a buffer to work in.
+pub fn agreed_row(n: usize, words: &[u16], k: usize, out: &mut [u16], spare: &mut [u16])
+    requires { ⌜ Study (now words) n k × (0 < k) × (length (now out) ≡ rowWords n) × (length (now spare) ≡ rowWords n) ⌝ }
+    ensures { λ _. ⌜ now (out .exit) ≡ agreed majority n (runs (now (words .entry))) ⌝ }
+{
+    bare(n, out);
+    let last = references(k);
+    let mut tried = 0;
+    while tried < last {
+        take_in(n, words, k, tried, out, spare);
+        tried += 1;
+    }
+}

@@ -1,0 +1,27 @@
+// Which groups are shown.
+ghost use mathlib.Core.Path.{_≡_};
+ghost use Prim.Native.Nat.{_*_, _≤_};
+ghost use lib.Dec.{ltb};
+ghost use lib.ListN.{length};
+ghost use Rattle.trees.specs.Tables.{tableWords};
+ghost use Rattle.count.specs.Holders.{Marked};
+use passes::TABLE;
+
+// "a group is in the agreed tree exactly when twice the number of runs holding it is greater than k. Exactly half is too few."
+fn is_shown(k: usize, held: u16) -> bool
+    ensures { λ r. ⌜ r ≡ ltb k (2 * held) ⌝ }
+{
+    k < 2 * (held as usize)
+}
+
+// Which of the nodes from n to below m are shown, by how many of k runs hold their groups.
+pub fn marks(n: usize, m: usize, k: usize, holders: &[u16; TABLE], keep: &mut [bool; TABLE])
+    requires { ⌜ (n ≤ m) × (m ≤ tableWords) × (length (now keep) ≡ tableWords) ⌝ }
+    ensures { λ _. ⌜ Marked k (now (holders .entry)) n m (now (keep .exit)) × (length (now (keep .exit)) ≡ tableWords) ⌝ }
+{
+    let mut v = n;
+    while v < m {
+        keep[v] = is_shown(k, holders[v]);
+        v += 1;
+    }
+}

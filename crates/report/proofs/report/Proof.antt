@@ -1,0 +1,59 @@
+-- `report::report` meets its contract. Assumes nothing.
+use denote.Ref.{now}
+use Rattle.report.proofs.CallLaws.{report-unformed, report-formed}
+use borrow.Author.Needs.{needs}
+use Rattle.report.proofs.report.Statement.{statement}
+use Rattle.report.proofs.report.Tie as tie
+
+study-given-requires : tie.Need-study-given-requires
+study-given-requires c κs = search needs
+
+enum-told : tie.Need-enum-told
+enum-told c = search needs
+
+enum-told-2 : tie.Need-enum-told-2
+enum-told-2 c = search needs
+
+same-length : tie.Need-same-length
+same-length c = search needs
+
+same-length-2 : tie.Need-same-length-2
+same-length-2 c = search needs
+
+returns : tie.Need-returns
+returns c =
+    let st : tie.Start = search needs in
+    let a = st .args in
+    let g : tie.After-study-given = search needs in
+    report-unformed (now (a .words)) (g .study-given .result) (g .study-given .ensures) _ _ (c .enum-told2 .given .1) (now (a .agreed)) (now (a .support))
+
+report-formed-requires : tie.Need-report-formed-requires
+report-formed-requires c κs =
+    let st : tie.Start = search needs in
+    let g : tie.After-study-given = search needs in
+    let t : tie.After-enum-told = search needs in
+    report-formed (now (st .args .words)) (g .study-given .result) (g .study-given .ensures) (t .enum-told .given .1)
+
+same-length-3 : tie.Need-same-length-3
+same-length-3 c = search needs
+
+same-length-4 : tie.Need-same-length-4
+same-length-4 c = search needs
+
+returns-2 : tie.Need-returns-2
+returns-2 c = search needs
+
+pub report-spec : {M : Type 1} → statement M
+report-spec =
+    tie.close
+    (tie.spec
+    study-given-requires
+    enum-told
+    enum-told-2
+    same-length
+    same-length-2
+    returns
+    report-formed-requires
+    same-length-3
+    same-length-4
+    returns-2)

@@ -1,0 +1,38 @@
+-- `report::report_given` gives the first of its checks that applies. Assumes nothing.
+use denote.Ref.{now}
+use Rattle.report.proofs.CallLaws.{given-stops, given-goes}
+use borrow.Author.Needs.{needs}
+use Rattle.report.proofs.report_given.Statement.{statement}
+use Rattle.report.proofs.report_given.Tie as tie
+
+words-both-requires : tie.Need-words-both-requires
+words-both-requires c κs = search needs
+
+enum-told : tie.Need-enum-told
+enum-told c = search needs
+
+enum-told-2 : tie.Need-enum-told-2
+enum-told-2 c = search needs
+
+returns : tie.Need-returns
+returns c =
+    let st : tie.Start = search needs in
+    let a = st .args in
+    let b : tie.After-words-both = search needs in
+    given-stops (a .n) (a .k) (now (a .agreed)) (now (a .support)) (b .words-both .result) (b .words-both .ensures) _ _ (c .enum-told2 .given .1)
+
+runs-given-requires : tie.Need-runs-given-requires
+runs-given-requires c κs = search needs
+
+returns-2 : tie.Need-returns-2
+returns-2 c =
+    let st : tie.Start = search needs in
+    let a = st .args in
+    let b : tie.After-words-both = search needs in
+    let t : tie.After-enum-told = search needs in
+    given-goes (a .n) (a .k) (now (a .agreed)) (now (a .support)) (b .words-both .result) (b .words-both .ensures) (t .enum-told .given .1) (c .runs-given .result) (c .runs-given .ensures)
+
+pub report-given-spec : {M : Type 1} → statement M
+report-given-spec =
+    tie.close
+    (tie.spec words-both-requires enum-told enum-told-2 returns runs-given-requires returns-2)

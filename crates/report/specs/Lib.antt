@@ -1,0 +1,3 @@
+pub mod Supports
+pub mod SupportLaws
+pub mod ReportedLaws

@@ -1,0 +1,113 @@
+// The report of a study: its checks, the agreed row and the support row.
+ghost use mathlib.Core.Path.{_≡_};
+ghost use Prim.Native.Nat.{_<_, _≤_};
+ghost use lib.Dec.{eqb};
+ghost use lib.ListN.{length};
+ghost use Rattle.trees.specs.Checks.{accepted, _⊳_, asked, line, mostSamples, rowWords};
+ghost use Rattle.trees.specs.Reporting.{majority, agreed, supports};
+ghost use Rattle.trees.specs.Tables.{Tabled, tableWords};
+ghost use Rattle.runs.specs.Words.{runs, mostRuns};
+ghost use Rattle.runs.specs.Formed.{Formed};
+ghost use Rattle.runs.specs.Reports.{reported};
+ghost use Rattle.judge.specs.Verdicts.{verdict};
+ghost use Rattle.count.specs.Studies.{Study};
+ghost use Rattle.report.specs.Supports.{givenChecks, supportWord};
+use count::agreed_row;
+use count::holders;
+use judge::Answer;
+use judge::Refusal;
+use judge::nodes;
+use judge::words_both;
+use passes::TABLE;
+use slots::in_force;
+use slots::samples;
+use study::study_given;
+
+// Check 14: "report: k is 0".
+fn runs_given(k: usize) -> Answer
+    ensures { λ r. ⌜ verdict r ≡ asked (line 14 (eqb k 0)) ⌝ }
+{
+    if k == 0 {
+        return Answer::Refused(Refusal::EMPTY, 0);
+    }
+    Answer::Accepted
+}
+
+// Checks 3 and 14, over n samples with k runs in force.
+fn report_given(n: usize, k: usize, agreed: &[u16], support: &[u16]) -> Answer
+    requires { ⌜ n ≤ mostSamples ⌝ }
+    ensures { λ r. ⌜ verdict r ≡ givenChecks n k (now (agreed .entry)) (now (support .entry)) ⊳ accepted ⌝ }
+{
+    let a = words_both(n, agreed, support);
+    let Answer::Accepted = a else {
+        return a;
+    };
+    runs_given(k)
+}
+
+// Word w of the support row of a row of m nodes, by the holders of its inner groups: each run holds the single samples.
+fn support_word(n: usize, m: usize, k: usize, holders: &[u16; TABLE], w: usize) -> u16
+    requires { ⌜ (m ≤ tableWords) × (k ≤ mostRuns) ⌝ }
+    ensures { λ r. ⌜ r ≡ supportWord n m k (now (holders .entry)) w ⌝ }
+{
+    if m < w {
+        return 0;
+    }
+    if w <= n {
+        return k as u16;
+    }
+    holders[w - 1]
+}
+
+// Writes these words.
+fn write_supports(n: usize, m: usize, k: usize, holders: &[u16; TABLE], out: &mut [u16])
+    requires { ⌜ (m ≤ tableWords) × (k ≤ mostRuns) ⌝ }
+    ensures { λ _. ⌜ Tabled (supportWord n m k (now (holders .entry))) 0 (length (now (out .entry))) (now (out .exit)) ⌝ }
+{
+    let mut w = 0;
+    while w < out.len() {
+        out[w] = support_word(n, m, k, holders, w);
+        w += 1;
+    }
+}
+
+// Writes the support row of the agreed row.
+fn support_row(n: usize, words: &[u16], k: usize, row: &[u16], out: &mut [u16])
+    requires { ⌜ Study (now words) n k × (0 < k) × (now row ≡ agreed majority n (runs (now words))) × (length (now out) ≡ rowWords n) ⌝ }
+    ensures { λ _. ⌜ now (out .exit) ≡ supports majority n (runs (now (words .entry))) ⌝ }
+{
+    let mut held: [u16; TABLE] = [0; TABLE];
+    holders(n, words, k, row, &mut held);
+    write_supports(n, nodes(row), k, &held, out);
+}
+
+// The report of a study that is known to be well formed.
+pub fn report_formed(words: &[u16], agreed: &mut [u16], support: &mut [u16]) -> Answer
+    requires { ⌜ Formed (now words) ⌝ }
+    ensures answer { λ r. ⌜ verdict r ≡ reported majority (now (words .entry)) (now (agreed .entry)) (now (support .entry)) .verdict ⌝ }
+    ensures agreed { λ _. ⌜ now (agreed .exit) ≡ reported majority (now (words .entry)) (now (agreed .entry)) (now (support .entry)) .agreedRow ⌝ }
+    ensures support { λ _. ⌜ now (support .exit) ≡ reported majority (now (words .entry)) (now (agreed .entry)) (now (support .entry)) .supportRow ⌝ }
+{
+    let n = samples(words);
+    let k = in_force(words);
+    let a = report_given(n, k, agreed, support);
+    let Answer::Accepted = a else {
+        return a;
+    };
+    agreed_row(n, words, k, agreed, support);
+    support_row(n, words, k, agreed, support);
+    Answer::Accepted
+}
+
+// The report: a refusal that leaves both buffers as they were, or the agreed row and the support row.
+pub fn report(words: &[u16], agreed: &mut [u16], support: &mut [u16]) -> Answer
+    ensures answer { λ r. ⌜ verdict r ≡ reported majority (now (words .entry)) (now (agreed .entry)) (now (support .entry)) .verdict ⌝ }
+    ensures agreed { λ _. ⌜ now (agreed .exit) ≡ reported majority (now (words .entry)) (now (agreed .entry)) (now (support .entry)) .agreedRow ⌝ }
+    ensures support { λ _. ⌜ now (support .exit) ≡ reported majority (now (words .entry)) (now (agreed .entry)) (now (support .entry)) .supportRow ⌝ }
+{
+    let a = study_given(words);
+    let Answer::Accepted = a else {
+        return a;
+    };
+    report_formed(words, agreed, support)
+}
