@@ -14,12 +14,6 @@ enum-told c = search needs
 enum-told-2 : tie.Need-enum-told-2
 enum-told-2 c = search needs
 
-same-length : tie.Need-same-length
-same-length c = search needs
-
-same-length-2 : tie.Need-same-length-2
-same-length-2 c = search needs
-
 returns : tie.Need-returns
 returns c =
     let st : tie.Start = search needs in
@@ -34,11 +28,11 @@ report-formed-requires c κs =
     let t : tie.After-enum-told = search needs in
     report-formed (now (st .args .words)) (g .study-given .result) (g .study-given .ensures) (t .enum-told .given .1)
 
-same-length-3 : tie.Need-same-length-3
-same-length-3 c = search needs
+same-length : tie.Need-same-length
+same-length c = search needs
 
-same-length-4 : tie.Need-same-length-4
-same-length-4 c = search needs
+same-length-2 : tie.Need-same-length-2
+same-length-2 c = search needs
 
 returns-2 : tie.Need-returns-2
 returns-2 c = search needs
@@ -50,10 +44,8 @@ report-spec =
     study-given-requires
     enum-told
     enum-told-2
-    same-length
-    same-length-2
     returns
     report-formed-requires
-    same-length-3
-    same-length-4
+    same-length
+    same-length-2
     returns-2)
