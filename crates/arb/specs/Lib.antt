@@ -1,4 +1,6 @@
 pub mod Determined
 pub mod Demand3
+pub mod Packing
+pub mod PackingLaws
 pub mod Specimens
 pub mod SpecimenLaws

@@ -1,4 +1,6 @@
-// The public calls, each with its promise.
+// The public calls, each with its promise; `c` has them for C.
+mod c;
+
 ghost use mathlib.Core.Path.{_≡_};
 ghost use Rattle.trees.specs.Checks.{judged};
 ghost use Rattle.trees.specs.RowCalls.{renumbering, comparing};

@@ -1,12 +1,12 @@
 -- Holders are counted run by run; marks by holders are the majority rule. Assumes nothing.
-use Prim.Native.Nat.{ℕ, suc, _+_, _*_, _≤_, _<_}
+use Prim.Native.Nat.{ℕ, suc, _+_, _≤_, _<_}
 use mathlib.Core.Path.{_≡_, refl, sym, ap, subst, _∙_}
 use mathlib.Core.Logic.{⊎-elim}
 use mathlib.Core.List.{List, [], _∷_}
 use mathlib.Core.Bool.{Bool, false, not, cond}
 use native.Mathlib.Numerals.{add-one}
 use native.Mathlib.Omega.{arith}
-use lib.Dec.{eqb, ltb}
+use lib.Dec.{eqb}
 use lib.ListN.{length, getD, set, take, length-take, length-set}
 use lib.Seq.{take-suc, take-all, getD-set-same, getD-set-other}
 use borrow.Author.Tests.{eqb-true, eqb-false}
@@ -24,7 +24,7 @@ use Rattle.trees.specs.RowLaws.{inner-two}
 use Rattle.trees.specs.TableLaws.{tabled-more, tabled-none}
 use Rattle.trees.specs.MateLaws.{mate-holds}
 use Rattle.trees.specs.ReportingLaws.{total-length, support-most}
-use Rattle.count.specs.Holders.{holdersAt, withMate, withRun, Under, Tallying, Holding, Marked}
+use Rattle.count.specs.Holders.{holdersAt, withMate, withRun, Under, Tallying, Holding, isShown, Marked}
 
 -- ---- the mates of one run
 
@@ -59,7 +59,8 @@ module _ (n : ℕ) (rs : List Run) (g : Group) where
   support-more : (j : ℕ) (d : Run) → j < length rs → support n (take (suc j) rs) g ≡ support n (take j rs) g + cond (holds n g (getD rs j d .row)) 1 0
   unfolding support
   support-more j d h = ap (λ (xs : List Run). support n xs g) (take-suc rs j d h)
-      ∙ weigh-append worth (λ run. holds n g (run .row)) (take j rs) (getD rs j d ∷ []) ∙ ap (λ (y : ℕ). support n (take j rs) g + y) (support-one (getD rs j d))
+      ∙ weigh-append worth (λ run. holds n g (run .row)) (take j rs) (getD rs j d ∷ []) ∙ ap (λ (y : ℕ). support n (take j rs) g + y)
+      (support-one (getD rs j d))
 
   support-few : (j : ℕ) → support n (take j rs) g ≤ j
   support-few j = omega (arith, support-most n (take j rs) g, total-length (take j rs), length-take j rs)
@@ -91,18 +92,18 @@ module _ (n : ℕ) (rs : List Run) (q : List ℕ) where
 pub marked-none : (k : ℕ) (holders : List ℕ) (a : ℕ) (keep : List Bool) → Marked k holders a a keep
 marked-none k holders a keep = record { is = λ v h j. absurd (omega arith) }
 
-pub marked-more : (k : ℕ) (holders : List ℕ) (a v : ℕ) (b : Bool) (keep : List Bool) → v < length keep → b ≡ ltb k (2 * entry holders v)
+pub marked-more : (k : ℕ) (holders : List ℕ) (a v : ℕ) (b : Bool) (keep : List Bool) → v < length keep → b ≡ isShown k (entry holders v)
     → Marked k holders a v keep → Marked k holders a (v + 1) (set keep v b)
 marked-more k holders a v b keep l e m = record { is = λ u h j. ⊎-elim (λ q. here u (eqb-true u v q)) (λ q. there u h j (eqb-false u v q)) (decide (eqb u v)) }
   where
-    here : (u : ℕ) → u ≡ v → flagged (set keep v b) u ≡ ltb k (2 * entry holders u)
+    here : (u : ℕ) → u ≡ v → flagged (set keep v b) u ≡ isShown k (entry holders u)
     here u q = rw q (getD-set-same keep v b false l ∙ e)
 
-    there : (u : ℕ) → a ≤ u → u < v + 1 → (u ≡ v → ⊥) → flagged (set keep v b) u ≡ ltb k (2 * entry holders u)
+    there : (u : ℕ) → a ≤ u → u < v + 1 → (u ≡ v → ⊥) → flagged (set keep v b) u ≡ isShown k (entry holders u)
     there u h j q = getD-set-other keep v u b false q ∙ m .is u h (omega arith)
 
 pub marked-majority : (n : ℕ) (rs : List Run) (q holders : List ℕ) (k : ℕ) (keep : List Bool) → length rs ≡ k
     → Tabled (holdersAt n rs q) n (nodes q) holders → Marked k holders n (nodes q) keep
     → (v : ℕ) → n ≤ v → v < nodes q → flagged keep v ≡ majority n rs (groupAt n q v)
-marked-majority n rs q holders k keep l t m v h j = m .is v h j ∙ ap (λ (x : ℕ). ltb k (2 * x)) (t .is v h j)
-    ∙ ap (λ (x : ℕ). ltb x (2 * support n rs (groupAt n q v))) (sym (total-length rs ∙ l))
+marked-majority n rs q holders k keep l t m v h j = m .is v h j ∙ ap (isShown k) (t .is v h j)
+    ∙ ap (λ (x : ℕ). isShown x (support n rs (groupAt n q v))) (sym (total-length rs ∙ l))

@@ -39,6 +39,10 @@ pub record Holding (n : ℕ) (rs : List Run) (q : List ℕ) (j : ℕ) (t : List 
   pub long : length t ≡ tableWords
   pub held : Tabled (holdersAt n (take j rs) q) n (nodes q) t
 
--- "twice the number of runs holding it is greater than k": the flags from a to below b, by a table of these numbers
+-- "a group is in the agreed tree exactly when twice the number of runs holding it is greater than k"
+abbrev pub isShown : ℕ → ℕ → Bool
+isShown k held = ltb k (2 * held)
+
+-- the flags from a to below b, by a table of the numbers of runs
 pub record Marked (k : ℕ) (holders : List ℕ) (a b : ℕ) (keep : List Bool) : Type 0 where
-  pub is : (v : ℕ) → a ≤ v → v < b → flagged keep v ≡ ltb k (2 * entry holders v)
+  pub is : (v : ℕ) → a ≤ v → v < b → flagged keep v ≡ isShown k (entry holders v)

@@ -2,5 +2,6 @@ pub mod Studies
 pub mod StudyLaws
 pub mod Holders
 pub mod HolderLaws
+pub mod Plain
 pub mod TakingLaws
 pub mod PlainLaws

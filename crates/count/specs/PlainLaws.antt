@@ -10,7 +10,6 @@ use Rattle.trees.specs.Valid.{Standard}
 use Rattle.trees.specs.Numbering.{rowOf}
 use Rattle.trees.specs.Tables.{Tabled}
 use Rattle.trees.specs.Reporting.{Run, majority, agreed, references}
-use Rattle.trees.specs.Counting.{soFar}
 use Rattle.trees.specs.Merging.{merged, Mergeable}
 use Rattle.trees.specs.ReportingLaws.{Sound, majority-sound}
 use Rattle.trees.specs.CountingLaws.{so-far-start, majority-so-far, Passing}
@@ -19,11 +18,8 @@ use Rattle.count.specs.Studies.{Study, rowAt}
 use Rattle.count.specs.StudyLaws.{study-most, study-length, study-run, study-all, study-standard}
 use Rattle.count.specs.Holders.{holdersAt, Marked}
 use Rattle.count.specs.HolderLaws.{marked-majority}
-use Rattle.count.specs.TakingLaws.{bareRow, all, so-far-standard, taken, takeable}
-
--- the row of what is accepted after i runs
-abbrev pub accepted : ℕ → List ℕ → ℕ → List ℕ
-accepted n w i = rowOf n (soFar majority n (runs w) i)
+use Rattle.count.specs.Plain.{bareRow, all, accepted}
+use Rattle.count.specs.TakingLaws.{so-far-standard, taken, takeable}
 
 module _ (w : List ℕ) (n k : ℕ) (study : Study w n k) (some : 0 < k) where
   ok : (run : Run) → List·Memᴰ run (runs w) → Standard n (run .row)

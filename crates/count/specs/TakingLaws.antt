@@ -4,7 +4,7 @@ use mathlib.Core.Path.{_≡_, ap, subst, _∙_}
 use mathlib.Core.List.{List, [], _∷_, List·Memᴰ}
 use mathlib.Core.Bool.{Bool, true, false, cond}
 use native.Mathlib.Omega.{arith}
-use lib.ListN.{length, getD, replicate, getD-replicate}
+use lib.ListN.{length, getD, getD-replicate}
 use lib.Seq.{ext-getD}
 use Rattle.trees.specs.Groups.{Group, whole}
 use Rattle.trees.specs.Rows.{nodes, parent, rootMark}
@@ -22,15 +22,13 @@ use Rattle.trees.specs.BoolLaws.{or-l}
 use Rattle.trees.specs.MergingLaws.{merged-first, merged-second}
 use Rattle.trees.specs.ReportingLaws.{Sound}
 use Rattle.trees.specs.CountingLaws.{so-far-family, so-far-step, AllKept, Passing}
+use Rattle.count.specs.Plain.{bareRow, all}
 
 -- a buffer whose words are those of ws is ws
 pub tabled-words : (ws out : List ℕ) → length out ≡ length ws → Tabled (λ w. getD ws w 0) 0 (length ws) out → out ≡ ws
 tabled-words ws out l i = ext-getD 0 out ws l (λ w h. i .is w (omega arith) (omega arith))
 
--- ---- the bare row: the whole alone
-
-abbrev pub bareRow : ℕ → List ℕ
-bareRow n = rowOf n (whole n ∷ [])
+-- ---- the bare row
 
 pub bare-length : (n : ℕ) → 2 ≤ n → length (bareRow n) ≡ rowWords n
 bare-length n h = length-row n (whole n ∷ []) ∙ omega arith
@@ -52,10 +50,6 @@ pub bare-filler : (n w : ℕ) → n + 1 < w → getD (bareRow n) w 0 ≡ 0
 bare-filler n w h = filler-row n (whole n ∷ []) w h
 
 -- ---- one run more
-
--- flags that keep all
-abbrev pub all : List Bool
-all = replicate tableWords true
 
 module _ (rule : Rule) (n : ℕ) (rs : List Run) (ok : (run : Run) → List·Memᴰ run rs → Standard n (run .row)) (some : 0 < length rs)
     (sound : Sound rule n rs) (most : n ≤ mostSamples) where

@@ -1,13 +1,12 @@
 // The plain count: the agreed row, by merging what is shown of one run after another.
 ghost use mathlib.Core.Path.{_≡_};
-ghost use Prim.Native.Nat.{ℕ, _+_, _*_, _/_, _<_, _≤_};
+ghost use Prim.Native.Nat.{_+_, _<_, _≤_};
 ghost use lib.ListN.{length, getD};
 ghost use Rattle.trees.specs.Checks.{fewestSamples, mostSamples, rowWords};
 ghost use Rattle.trees.specs.Reporting.{majority, agreed, references};
 ghost use Rattle.runs.specs.Words.{runs, mostRuns};
 ghost use Rattle.count.specs.Studies.{Study};
-ghost use Rattle.count.specs.TakingLaws.{bareRow};
-ghost use Rattle.count.specs.PlainLaws.{accepted};
+ghost use Rattle.count.specs.Plain.{bareRow, accepted};
 use crate::holding::holders;
 use crate::holding::run_row;
 use crate::rule::marks;

@@ -1,15 +1,14 @@
 // Which groups are shown.
 ghost use mathlib.Core.Path.{_≡_};
-ghost use Prim.Native.Nat.{_*_, _≤_};
-ghost use lib.Dec.{ltb};
+ghost use Prim.Native.Nat.{_≤_};
 ghost use lib.ListN.{length};
 ghost use Rattle.trees.specs.Tables.{tableWords};
-ghost use Rattle.count.specs.Holders.{Marked};
+ghost use Rattle.count.specs.Holders.{isShown, Marked};
 use passes::TABLE;
 
 // "a group is in the agreed tree exactly when twice the number of runs holding it is greater than k. Exactly half is too few."
 fn is_shown(k: usize, held: u16) -> bool
-    ensures { λ r. ⌜ r ≡ ltb k (2 * held) ⌝ }
+    ensures { λ r. ⌜ r ≡ isShown k held ⌝ }
 {
     k < 2 * (held as usize)
 }

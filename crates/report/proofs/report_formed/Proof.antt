@@ -49,7 +49,8 @@ returns : tie.Need-returns
 returns c =
     let x : tie.After-report-given = search needs in
     let a = began x .args in
-    report-stops (now (a .words)) _ _ (study x) (now (a .agreed)) (now (a .support)) (x .report-given .result) (x .report-given .ensures) _ _ (c .enum-told2 .given .1)
+    report-stops (now (a .words)) _ _ (study x) (now (a .agreed)) (now (a .support)) (x .report-given .result) (x .report-given .ensures) _ _
+    (c .enum-told2 .given .1)
 
 agreed-row-requires : tie.Need-agreed-row-requires
 agreed-row-requires c κs =
@@ -57,7 +58,8 @@ agreed-row-requires c κs =
     let st = began x in
     let a = st .args in
     let t : tie.After-enum-told = search needs in
-    let o = report-some (now (a .words)) _ _ (study x) (now (a .agreed)) (now (a .support)) (x .report-given .result) (x .report-given .ensures) (t .enum-told .given .1) in
+    let o = report-some (now (a .words)) _ _ (study x) (now (a .agreed)) (now (a .support)) (x .report-given .result) (x .report-given .ensures)
+    (t .enum-told .given .1) in
     (study x, o .2, o .0, o .1)
 
 support-row-requires : tie.Need-support-row-requires
@@ -66,7 +68,8 @@ support-row-requires c κs =
     let st = began x in
     let a = st .args in
     let t : tie.After-enum-told = search needs in
-    let o = report-some (now (a .words)) _ _ (study x) (now (a .agreed)) (now (a .support)) (x .report-given .result) (x .report-given .ensures) (t .enum-told .given .1) in
+    let o = report-some (now (a .words)) _ _ (study x) (now (a .agreed)) (now (a .support)) (x .report-given .result) (x .report-given .ensures)
+    (t .enum-told .given .1) in
     let g : tie.After-agreed-row = search needs in
     (study x, o .2, g .agreed-row .ensures, g .agreed-row .kept .1 .1 .1 .1 .0 ∙ o .1)
 
@@ -82,10 +85,12 @@ returns-2 c =
     let st = began x in
     let a = st .args in
     let t : tie.After-enum-told = search needs in
-    let o = report-some (now (a .words)) _ _ (study x) (now (a .agreed)) (now (a .support)) (x .report-given .result) (x .report-given .ensures) (t .enum-told .given .1) in
+    let o = report-some (now (a .words)) _ _ (study x) (now (a .agreed)) (now (a .support)) (x .report-given .result) (x .report-given .ensures)
+    (t .enum-told .given .1) in
     let g : tie.After-agreed-row = search needs in
     let u : tie.After-support-row = search needs in
-    report-goes (now (a .words)) _ _ (study x) (now (a .agreed)) (now (a .support)) (x .report-given .result) (x .report-given .ensures) (t .enum-told .given .1) _ _ (g .agreed-row .ensures) (u .support-row .ensures)
+    report-goes (now (a .words)) _ _ (study x) (now (a .agreed)) (now (a .support)) (x .report-given .result) (x .report-given .ensures)
+    (t .enum-told .given .1) _ _ (g .agreed-row .ensures) (u .support-row .ensures)
 
 pub report-formed-spec : {M : Type 1} → statement M
 report-formed-spec =

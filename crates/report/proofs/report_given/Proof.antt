@@ -30,7 +30,8 @@ returns-2 c =
     let a = st .args in
     let b : tie.After-words-both = search needs in
     let t : tie.After-enum-told = search needs in
-    given-goes (a .n) (a .k) (now (a .agreed)) (now (a .support)) (b .words-both .result) (b .words-both .ensures) (t .enum-told .given .1) (c .runs-given .result) (c .runs-given .ensures)
+    given-goes (a .n) (a .k) (now (a .agreed)) (now (a .support)) (b .words-both .result) (b .words-both .ensures) (t .enum-told .given .1)
+    (c .runs-given .result) (c .runs-given .ensures)
 
 pub report-given-spec : {M : Type 1} → statement M
 report-given-spec =

@@ -44,7 +44,8 @@ returns c =
     let h : tie.After-holders = search needs in
     let d : tie.After-nodes = search needs in
     let x : tie.After-write-supports = search needs in
-    support-row (now (a .words)) (a .n) (a .k) (st .pre .0) (st .pre .1) (now (a .row)) _ (st .pre .2) (h .holders .ensures .0) _ _ (d .nodes .ensures) (x .write-supports .kept .1 .1 .1 .1 .0 ∙ st .pre .3) (rw (st .pre .3) at (x .write-supports .ensures))
+    support-row (now (a .words)) (a .n) (a .k) (st .pre .0) (st .pre .1) (now (a .row)) _ (st .pre .2) (h .holders .ensures .0) _ _ (d .nodes .ensures)
+    (x .write-supports .kept .1 .1 .1 .1 .0 ∙ st .pre .3) (rw (st .pre .3) at (x .write-supports .ensures))
 
 pub support-row-spec : {M : Type 1} → statement M
 support-row-spec =

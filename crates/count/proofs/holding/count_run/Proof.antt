@@ -26,8 +26,11 @@ returns c =
     let a = st .args in
     let m : tie.After-mates = search needs in
     let d : tie.After-nodes = search needs in
-    let t : tie.After-tally = search needs in
-    (tallied (a .n) (now (a .reference)) (now (a .row)) _ (now (a .holders)) _ (st .pre .0) (st .pre .2) (m .mates .ensures .0) (rw (d .nodes .ensures) at (t .tally .ensures .0)), t .tally .ensures .1)
+    let t : tie.After-tally = search needs in (
+      tallied (a .n) (now (a .reference)) (now (a .row)) _ (now (a .holders)) _ (st .pre .0) (st .pre .2) (m .mates .ensures .0)
+          (rw (d .nodes .ensures) at (t .tally .ensures .0)),
+      t .tally .ensures .1,
+    )
 
 pub count-run-spec : {M : Type 1} → statement M
 count-run-spec = tie.close (tie.spec mates-requires nodes-requires tally-requires returns)

@@ -1,5 +1,5 @@
 -- `count::holding::holders` counts run by run. Assumes nothing.
-use Prim.Native.Nat.{ℕ, _-_, _<_}
+use Prim.Native.Nat.{ℕ, _-_, _≤_, _<_}
 use mathlib.Core.Path.{sym, ap, _∙_}
 use native.Mathlib.Omega.{arith}
 use denote.Ref.{now}
@@ -43,11 +43,15 @@ count-run-requires c κs =
       t .tables .ensures,
       rw (r .run-row .ensures) (study-standard (now (a .words)) (a .n) (a .k) (st .pre .0) (l .loop .j) (omega arith)),
       l .loop .inv .long,
-      holding-under (a .n) (runs (now (a .words))) (now (a .reference)) mostRuns (l .loop .j) (l .loop .holders) (omega (arith, study-few _ _ _ (st .pre .0))) (l .loop .inv),
+      holding-under (a .n) (runs (now (a .words))) (now (a .reference)) mostRuns (l .loop .j) (l .loop .holders)
+          (omega (arith, study-few _ _ _ (st .pre .0))) (l .loop .inv),
     )
 
 add-j : tie.Need-add-j Inv-loop μ-loop
-add-j c = search needs
+add-j c =
+    let st : tie.Start Inv-loop μ-loop = search needs in
+    let few : st .args .k ≤ mostRuns = study-few _ _ _ (st .pre .0) in
+    search needs
 
 loop-less : tie.Need-loop-less Inv-loop μ-loop
 loop-less c = search needs
@@ -62,14 +66,18 @@ loop-again c =
     let h : j < a .k = omega arith in
     let d : Run = runAt (a .n) (now (a .words)) j in
     holding-step (a .n) (runs (now (a .words))) (now (a .reference)) j d _ (l .loop .holders) _ (rw (study-length _ _ _ (st .pre .0)) h)
-    (ap (λ (run : Run). run .row) (study-run _ _ _ (st .pre .0) j d h) ∙ sym (r .run-row .ensures)) (l .loop .inv) (c .count-run .ensures .1) (c .count-run .ensures .0)
+    (ap (λ (run : Run). run .row) (study-run _ _ _ (st .pre .0) j d h) ∙ sym (r .run-row .ensures)) (l .loop .inv) (c .count-run .ensures .1)
+    (c .count-run .ensures .0)
 
 returns : tie.Need-returns Inv-loop μ-loop
 returns c =
     let st : tie.Start Inv-loop μ-loop = search needs in
     let l : tie.At-loop Inv-loop μ-loop = search needs in
-    let a = st .args in
-    (holding-end (a .n) (runs (now (a .words))) (now (a .reference)) (l .loop .j) (l .loop .holders) (omega (arith, study-length _ _ _ (st .pre .0))) (l .loop .inv), l .loop .inv .long)
+    let a = st .args in (
+      holding-end (a .n) (runs (now (a .words))) (now (a .reference)) (l .loop .j) (l .loop .holders) (omega (arith, study-length _ _ _ (st .pre .0)))
+          (l .loop .inv),
+      l .loop .inv .long,
+    )
 
 pub holders-spec : {M : Type 1} → statement M
 holders-spec =

@@ -53,8 +53,11 @@ loop-less c = search needs
 loop-again : tie.Need-loop-again Inv-loop μ-loop
 loop-again c =
     let st : tie.Start Inv-loop μ-loop = search needs in
-    let l : tie.At-loop Inv-loop μ-loop = search needs in
-    (omega arith, tallying-step (st .args .n) (st .args .m) (now (st .args .mate)) (now (st .args .holders)) (l .loop .v) _ (l .loop .holders) (omega arith) (st .pre .1) (c .with-mate .ensures) (l .loop .inv .1))
+    let l : tie.At-loop Inv-loop μ-loop = search needs in (
+      omega arith,
+      tallying-step (st .args .n) (st .args .m) (now (st .args .mate)) (now (st .args .holders)) (l .loop .v) _ (l .loop .holders) (omega arith)
+          (st .pre .1) (c .with-mate .ensures) (l .loop .inv .1),
+    )
 
 returns : tie.Need-returns Inv-loop μ-loop
 returns c =

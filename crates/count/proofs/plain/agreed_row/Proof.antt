@@ -6,13 +6,15 @@ use lib.ListN.{length}
 use Rattle.trees.specs.Checks.{rowWords}
 use Rattle.trees.specs.Reporting.{references}
 use Rattle.count.specs.StudyLaws.{study-least, study-most, study-few}
-use Rattle.count.specs.PlainLaws.{accepted, accepted-start, accepted-end}
+use Rattle.count.specs.PlainLaws.{accepted-start, accepted-end}
+use Rattle.count.specs.Plain.{accepted}
 use borrow.Author.Needs.{needs}
 use Rattle.count.proofs.plain.agreed_row.Statement.{statement}
 use Rattle.count.proofs.plain.agreed_row.Tie as tie
 
 abbrev Inv-loop : tie.InvT-loop
-Inv-loop n words k out₀ spare₀ last tried₀ out spare tried = (tried ≤ last) × (last ≡ references k) × (out ≡ accepted n words tried) × (length out ≡ rowWords n) × (length spare ≡ rowWords n)
+Inv-loop n words k out₀ spare₀ last tried₀ out spare tried = (tried ≤ last) × (last ≡ references k) × (out ≡ accepted n words tried) ×
+    (length out ≡ rowWords n) × (length spare ≡ rowWords n)
 
 abbrev μ-loop : tie.MeasureT-loop
 μ-loop n words k out₀ spare₀ last tried₀ out spare tried = last - tried

@@ -6,7 +6,8 @@ use lib.ListN.{length, getD, length-set}
 use Rattle.trees.specs.Checks.{rowWords}
 use Rattle.trees.specs.Tables.{Tabled}
 use Rattle.trees.specs.TableLaws.{tabled-more, tabled-none}
-use Rattle.count.specs.TakingLaws.{tabled-words, bareRow, bare-length}
+use Rattle.count.specs.TakingLaws.{tabled-words, bare-length}
+use Rattle.count.specs.Plain.{bareRow}
 use borrow.Author.Needs.{needs}
 use Rattle.count.proofs.plain.bare.Statement.{statement}
 use Rattle.count.proofs.plain.bare.Tie as tie
@@ -41,8 +42,12 @@ loop-less c =
 
 loop-again : tie.Need-loop-again Inv-loop μ-loop
 loop-again c =
-    let l : tie.At-loop Inv-loop μ-loop = search needs in
-    (tabled-more _ 0 (l .loop .w) _ (l .loop .out) (l .loop .inv .0) (omega arith) (c .bare-word .ensures), length-set (l .loop .out) (l .loop .w) _ ∙ l .loop .inv .1, omega (arith, l .loop .inv .1))
+    let l : tie.At-loop Inv-loop μ-loop = search needs in (
+      tabled-more _ 0 (l .loop .w) _ (l .loop .out) (l .loop .inv .0) (omega arith) (c .bare-word .ensures),
+      length-set (l .loop .out) (l .loop .w) _ ∙ l
+          .loop .inv .1,
+      omega (arith, l .loop .inv .1),
+    )
 
 same-length : tie.Need-same-length Inv-loop μ-loop
 same-length c =

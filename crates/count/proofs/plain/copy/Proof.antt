@@ -44,8 +44,12 @@ loop-less c =
 
 loop-again : tie.Need-loop-again Inv-loop μ-loop
 loop-again c =
-    let l : tie.At-loop Inv-loop μ-loop = search needs in
-    (tabled-more _ 0 (l .loop .i) _ (l .loop .to) (l .loop .inv .0) (omega arith) refl, length-set (l .loop .to) (l .loop .i) _ ∙ l .loop .inv .1, omega (arith, l .loop .inv .1))
+    let l : tie.At-loop Inv-loop μ-loop = search needs in (
+      tabled-more _ 0 (l .loop .i) _ (l .loop .to) (l .loop .inv .0) (omega arith) refl,
+      length-set (l .loop .to) (l .loop .i) _ ∙ l .loop .inv .1,
+      omega
+          (arith, l .loop .inv .1),
+    )
 
 same-length : tie.Need-same-length Inv-loop μ-loop
 same-length c =

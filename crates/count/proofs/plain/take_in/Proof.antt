@@ -61,8 +61,11 @@ merge-requires c κs =
     let st = began x in
     let a = st .args in
     let r = taken x .run-row .ensures in
-    let some : 0 < a .k = omega (arith, st .pre .1) in
-    (accepted-mergeable (now (a .words)) (a .n) (a .k) (st .pre .0) some (a .i) _ _ _ _ _ (st .pre .1) (st .pre .2) r (counted x .holders .ensures .0) (noded x .nodes .ensures) (x .marks .ensures .0), st .pre .3)
+    let some : 0 < a .k = omega (arith, st .pre .1) in (
+      accepted-mergeable (now (a .words)) (a .n) (a .k) (st .pre .0) some (a .i) _ _ _ _ _ (st .pre .1) (st .pre .2) r (counted x .holders .ensures .0)
+          (noded x .nodes .ensures) (x .marks .ensures .0),
+      st .pre .3,
+    )
 
 copy-requires : tie.Need-copy-requires
 copy-requires c κs =
@@ -71,7 +74,8 @@ copy-requires c κs =
     let a = st .args in
     let some : 0 < a .k = omega (arith, st .pre .1) in
     let m : tie.After-merge = search needs in
-    ap length (st .pre .2) ∙ accepted-standard (now (a .words)) (a .n) (a .k) (st .pre .0) some (a .i) .valid .words ∙ sym (m .merge .kept .1 .1 .1 .1 .1 .0 ∙ st .pre .3)
+    ap length (st .pre .2) ∙ accepted-standard (now (a .words)) (a .n) (a .k) (st .pre .0) some (a .i) .valid .words ∙ sym
+    (m .merge .kept .1 .1 .1 .1 .1 .0 ∙ st .pre .3)
 
 same-length : tie.Need-same-length
 same-length c = search needs
@@ -88,7 +92,8 @@ returns c =
     let some : 0 < a .k = omega (arith, st .pre .1) in
     let m : tie.After-merge = search needs in
     let y : tie.After-copy = search needs in
-    y .copy .ensures ∙ m .merge .ensures ∙ accepted-step (now (a .words)) (a .n) (a .k) (st .pre .0) some (a .i) _ _ _ _ _ (st .pre .1) (st .pre .2) r (counted x .holders .ensures .0) (noded x .nodes .ensures) (x .marks .ensures .0)
+    y .copy .ensures ∙ m .merge .ensures ∙ accepted-step (now (a .words)) (a .n) (a .k) (st .pre .0) some (a .i) _ _ _ _ _ (st .pre .1) (st .pre .2) r
+    (counted x .holders .ensures .0) (noded x .nodes .ensures) (x .marks .ensures .0)
 
 pub take-in-spec : {M : Type 1} → statement M
 take-in-spec =

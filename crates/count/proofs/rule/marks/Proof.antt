@@ -43,8 +43,13 @@ loop-less c = search needs
 loop-again : tie.Need-loop-again Inv-loop μ-loop
 loop-again c =
     let st : tie.Start Inv-loop μ-loop = search needs in
-    let l : tie.At-loop Inv-loop μ-loop = search needs in
-    (omega arith, omega arith, simp length-set (l .loop .inv .2), marked-more (st .args .k) (now (st .args .holders)) (st .args .n) (l .loop .v) _ (l .loop .keep) (omega (arith, l .loop .inv .2, st .pre .1)) (c .is-shown .ensures) (l .loop .inv .3))
+    let l : tie.At-loop Inv-loop μ-loop = search needs in (
+      omega arith,
+      omega arith,
+      simp length-set (l .loop .inv .2),
+      marked-more (st .args .k) (now (st .args .holders)) (st .args .n) (l .loop .v) _
+          (l .loop .keep) (omega (arith, l .loop .inv .2, st .pre .1)) (c .is-shown .ensures) (l .loop .inv .3),
+    )
 
 returns : tie.Need-returns Inv-loop μ-loop
 returns c =

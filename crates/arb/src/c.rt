@@ -1,0 +1,116 @@
+// The calls for C: each answers one number, packed as `specs/Packing` says. A slice is a pointer and a length.
+ghost use mathlib.Core.Path.{_≡_};
+ghost use Rattle.trees.specs.Checks.{refused, counted, judged};
+ghost use Rattle.trees.specs.RowCalls.{renumbering, comparing};
+ghost use Rattle.trees.specs.Reporting.{majority};
+ghost use Rattle.runs.specs.Calls.{opened, added, withdrawn};
+ghost use Rattle.runs.specs.Reports.{reported};
+ghost use Rattle.judge.specs.Verdicts.{verdict};
+ghost use Rattle.row.specs.Comparisons.{comparison};
+ghost use Rattle.arb.specs.Packing.{packed};
+use judge::Answer;
+use row::Comparison;
+
+// How many numbers, places and counts a packed answer tells apart.
+const NUMBERS: u64 = 256;
+
+const PLACES: u64 = 72057594037927936;
+
+const COUNTS: u64 = 65536;
+
+// A refusal as one number: its number in the low 8 bits, its place above them.
+fn pack_refusal(number: usize, place: usize) -> u64
+    ensures { λ r. ⌜ r ≡ packed (refused number place) ⌝ }
+{
+    number as u64 % NUMBERS + NUMBERS * (place as u64 % PLACES)
+}
+
+// An answer as one number.
+fn pack(a: Answer) -> u64
+    ensures { λ r. ⌜ r ≡ packed (verdict a) ⌝ }
+{
+    match a {
+        Answer::Accepted => 0,
+        Answer::Refused(number, place) => pack_refusal(number, place),
+    }
+}
+
+// Three counts as one number.
+fn pack_counts(both: usize, first: usize, second: usize) -> u64
+    ensures { λ r. ⌜ r ≡ packed (counted both first second) ⌝ }
+{
+    65536 * (both as u64 % COUNTS)
+        + (4294967296 * (first as u64 % COUNTS) + 281474976710656 * (second as u64 % COUNTS))
+}
+
+// An answer of comparing as one number.
+fn pack_comparison(a: Comparison) -> u64
+    ensures { λ r. ⌜ r ≡ packed (comparison a) ⌝ }
+{
+    match a {
+        Comparison::Counted(both, first, second) => pack_counts(both, first, second),
+        Comparison::Refused(number, place) => pack_refusal(number, place),
+    }
+}
+
+// Opening.
+#[no_mangle]
+pub extern "C" fn arb_open(n: usize, words: &mut [u16]) -> u64
+    ensures answer { λ r. ⌜ r ≡ packed (opened n (now (words .entry)) .verdict) ⌝ }
+    ensures words { λ _. ⌜ now (words .exit) ≡ opened n (now (words .entry)) .words ⌝ }
+{
+    pack(crate::open(n, words))
+}
+
+// Adding.
+#[no_mangle]
+pub extern "C" fn arb_add(words: &mut [u16], id: u16, row: &[u16]) -> u64
+    ensures answer { λ r. ⌜ r ≡ packed (added (now (words .entry)) id (now (row .entry)) .verdict) ⌝ }
+    ensures words { λ _. ⌜ now (words .exit) ≡ added (now (words .entry)) id (now (row .entry)) .words ⌝ }
+{
+    pack(crate::add(words, id, row))
+}
+
+// Withdrawing.
+#[no_mangle]
+pub extern "C" fn arb_withdraw(words: &mut [u16], id: u16) -> u64
+    ensures answer { λ r. ⌜ r ≡ packed (withdrawn (now (words .entry)) id .verdict) ⌝ }
+    ensures words { λ _. ⌜ now (words .exit) ≡ withdrawn (now (words .entry)) id .words ⌝ }
+{
+    pack(crate::withdraw(words, id))
+}
+
+// Reporting.
+#[no_mangle]
+pub extern "C" fn arb_report(words: &[u16], agreed: &mut [u16], support: &mut [u16]) -> u64
+    ensures answer { λ r. ⌜ r ≡ packed (reported majority (now (words .entry)) (now (agreed .entry)) (now (support .entry)) .verdict) ⌝ }
+    ensures agreed { λ _. ⌜ now (agreed .exit) ≡ reported majority (now (words .entry)) (now (agreed .entry)) (now (support .entry)) .agreedRow ⌝ }
+    ensures support { λ _. ⌜ now (support .exit) ≡ reported majority (now (words .entry)) (now (agreed .entry)) (now (support .entry)) .supportRow ⌝ }
+{
+    pack(crate::report(words, agreed, support))
+}
+
+// Judging.
+#[no_mangle]
+pub extern "C" fn arb_judge(n: usize, row: &[u16]) -> u64
+    ensures { λ r. ⌜ r ≡ packed (judged n (now (row .entry))) ⌝ }
+{
+    pack(crate::judge(n, row))
+}
+
+// Renumbering.
+#[no_mangle]
+pub extern "C" fn arb_renumber(n: usize, row: &[u16], out: &mut [u16]) -> u64
+    ensures answer { λ r. ⌜ r ≡ packed (renumbering n (now (row .entry)) (now (out .entry)) .verdict) ⌝ }
+    ensures words { λ _. ⌜ now (out .exit) ≡ renumbering n (now (row .entry)) (now (out .entry)) .words ⌝ }
+{
+    pack(crate::renumber(n, row, out))
+}
+
+// Comparing.
+#[no_mangle]
+pub extern "C" fn arb_compare(n: usize, first: &[u16], second: &[u16]) -> u64
+    ensures { λ r. ⌜ r ≡ packed (comparing n (now (first .entry)) (now (second .entry))) ⌝ }
+{
+    pack_comparison(crate::compare(n, first, second))
+}
