@@ -1,0 +1,96 @@
+// Times the library's report and its well-formedness check against plain C and against a hash table, in one process, as ratios.
+// Ends with 1 if an answer differs.
+#include "draws.h"
+#include "hashed.h"
+#include "plain.h"
+
+u64 arb_open(size_t n, u16 *words, size_t length);
+u64 arb_renumber(size_t n, const u16 *row, size_t row_length, u16 *out, size_t out_length);
+u64 arb_withdraw(u16 *words, size_t length, u16 identifier);
+u64 arb_report(const u16 *words, size_t length, u16 *agreed, size_t agreed_length, u16 *support, size_t support_length);
+
+enum { NOT_IN_FORCE = 13, ABSENT = 65535, ENGINES = 3 };
+enum engine { LIBRARY, PLAIN, HASHED };
+
+static u16 words[HEADER + RUNS * (2 * SAMPLES + 1)];
+static size_t length;
+static int n, k, failures;
+static u16 agreed[ENGINES][NODES], support[ENGINES][NODES];
+
+static void fail(const char *what) {
+    printf("%s differs at n = %d, k = %d\n", what, n, k);
+    failures++;
+}
+
+static void draw_study(enum shape shape) {
+    struct draw common;
+    u16 row[NODES];
+    length = HEADER + k * slot_words(n);
+    if (arb_open(n, words, length)) fail("opening");
+    draw_samples(&common, n);
+    join_until(&common, shape, n - n / 2);
+    for (int j = 0; j < k; j++) {
+        draw_row(common, shape, n, row);
+        *slot(words, n, j) = j + 1;
+        if (arb_renumber(n, row, 2 * n, slot(words, n, j) + 1, 2 * n)) fail("renumbering");
+    }
+    words[5] = k;
+}
+
+static void report(enum engine e) {
+    if (e == PLAIN) plain_report(words, n, k, agreed[e], support[e]);
+    else if (e == HASHED) hashed_report(words, n, k, agreed[e], support[e]);
+    else if (arb_report(words, length, agreed[e], 2 * n, support[e], 2 * n)) fail("the library's report");
+}
+
+// The library's check alone: a withdrawal that is refused for its identifier has checked the whole study.
+static void check(enum engine e) {
+    if (e == PLAIN ? !plain_formed(words, length) : arb_withdraw(words, length, ABSENT) != NOT_IN_FORCE) fail("the check");
+}
+
+static double now(void) {
+    struct timespec t;
+    clock_gettime(1, &t);
+    return t.tv_sec + 1e-9 * t.tv_nsec;
+}
+
+// Seconds that one call takes: the mean over at least a fifth of a second.
+static double seconds(void (*call)(enum engine), enum engine e) {
+    double start = now();
+    int calls = 0;
+    do call(e), calls++;
+    while (now() - start < 0.2);
+    return (now() - start) / calls;
+}
+
+static void compare_answers(void) {
+    for (int e = PLAIN; e < ENGINES; e++)
+        if (memcmp(agreed[e], agreed[LIBRARY], 4 * n) || memcmp(support[e], support[LIBRARY], 4 * n)) fail(e == PLAIN ? "plain C" : "the hash table");
+}
+
+static void measure_shape(enum shape shape) {
+    static const int sizes[4][2] = {{50, 324}, {512, 31}, {200, 500}, {512, 1024}};
+    double last_report = 0, last_check = 0, last_n = 0, last_k = 0;
+    printf("\n%s\n\n| n × k | groups shown | report | to plain C | to hash | grows | as k²·n | check | to plain C | to hash | grows | as k·n |\n|---|---|---|---|---|---|---|---|---|---|---|---|\n",
+        shape == RANDOM ? "Random trees" : "Caterpillars");
+    for (int i = 0; i < 4; i++) {
+        n = sizes[i][0], k = sizes[i][1];
+        draw_study(shape);
+        double plain = seconds(report, PLAIN), hashed = seconds(report, HASHED), library = seconds(report, LIBRARY);
+        double plain_check = seconds(check, PLAIN), library_check = seconds(check, LIBRARY);
+        compare_answers();
+        printf("| %d × %d | %d of %d | %.2f ms | %.2f | %.1f |", n, k, agreed[LIBRARY][0] - n, n - 1, library * 1e3, library / plain, library / hashed);
+        if (i) printf(" %.2f | %.2f |", library / last_report, n * (double)k * k / (last_n * last_k * last_k));
+        else printf(" | |");
+        printf(" %.3f ms | %.2f | %.2f |", library_check * 1e3, library_check / plain_check, library_check / hashed);
+        if (i) printf(" %.2f | %.2f |\n", library_check / last_check, n * (double)k / (last_n * last_k));
+        else printf(" | |\n");
+        last_report = library, last_check = library_check, last_n = n, last_k = k;
+    }
+}
+
+int main(void) {
+    measure_shape(RANDOM);
+    measure_shape(CATERPILLAR);
+    return failures != 0;
+}

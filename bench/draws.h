@@ -1,0 +1,42 @@
+// Studies drawn at random, with the same draws each time: half of each run's groups are common to all runs, half are its own.
+#pragma once
+#include "words.h"
+enum shape { RANDOM, CATERPILLAR };
+
+struct draw { int nodes, open; u16 parent[NODES], tops[SAMPLES]; };
+
+static u64 dice = 88172645463325252ul;
+static int below(int bound) {
+    dice ^= dice << 13;
+    dice ^= dice >> 7;
+    dice ^= dice << 17;
+    return dice % bound;
+}
+
+// Joins two of the subtrees that have no parent yet under a new node.
+static void join(struct draw *d, int a, int b) {
+    int v = d->nodes++;
+    d->parent[d->tops[a]] = d->parent[d->tops[b]] = v;
+    d->tops[a] = v;
+    d->tops[b] = d->tops[--d->open];
+}
+
+static void join_until(struct draw *d, enum shape shape, int open) {
+    while (d->open > open) {
+        int a = shape == CATERPILLAR ? 0 : below(d->open), b = below(d->open - 1);
+        join(d, a, b < a ? b : b + 1);
+    }
+}
+
+static void draw_samples(struct draw *d, int n) {
+    d->nodes = d->open = n;
+    for (int s = 0; s < n; s++) d->tops[s] = s;
+}
+
+static void draw_row(struct draw d, enum shape shape, int n, u16 *row) {
+    join_until(&d, shape, 1);
+    d.parent[d.tops[0]] = NO_PARENT;
+    memset(row, 0, 2 * n * sizeof *row);
+    row[0] = d.nodes;
+    memcpy(row + 1, d.parent, d.nodes * sizeof *row);
+}
