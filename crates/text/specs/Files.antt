@@ -1,0 +1,59 @@
+-- The file that the listing program reads: when it is bad, its header and its slots.
+use Prim.Native.Nat.{ℕ, suc, _+_, _*_}
+use mathlib.Core.List.{List, [], _∷_}
+use mathlib.Core.Bool.{Bool, true, false, _&&_, _||_, not, cond}
+use lib.Dec.{eqb}
+use lib.ListN.{length, getD}
+use Rattle.trees.specs.Lists.{tabulate}
+use Rattle.trees.specs.Checks.{rowWords, outside}
+use Rattle.text.specs.Ascii.{ascii}
+use Rattle.text.specs.declared.file.File.{File}
+use Rattle.text.specs.declared.file.File.the-variants.{Bad, Good}
+
+-- "16-bit numbers, low byte first"
+unfoldable pub wordAt : List ℕ → ℕ → ℕ
+wordAt bytes i = getD bytes i 0 + 256 * getD bytes (suc i) 0
+
+-- "the mark ARB, then as 16-bit numbers, low byte first, version 1, n, k"
+abbrev pub fileVersion : List ℕ → ℕ
+fileVersion bytes = wordAt bytes 3
+
+abbrev pub fileSamples : List ℕ → ℕ
+fileSamples bytes = wordAt bytes 5
+
+abbrev pub fileRuns : List ℕ → ℕ
+fileRuns bytes = wordAt bytes 7
+
+abbrev pub headBytes : ℕ
+headBytes = 9
+
+-- "Input file of the program: at most 65,529 bytes."
+abbrev pub mostBytes : ℕ
+mostBytes = 65529
+
+-- "9 + 2k(2n+1)": the bytes of a file with k slots, and the place of slot k in one with more
+unfoldable pub fileBytes : ℕ → ℕ → ℕ
+fileBytes n k = headBytes + 2 * k * (2 * n + 1)
+
+-- whether a text stands at the front
+unfoldable pub begins : List ℕ → List ℕ → Bool
+begins [] bytes = true
+begins (x ∷ text) [] = false
+begins (x ∷ text) (y ∷ bytes) = eqb x y && begins text bytes
+
+-- "fewer than 9 or more than 65,529 bytes, another mark or version, or a length other than 9 + 2k(2n+1)"
+unfoldable pub badFile : List ℕ → Bool
+badFile bytes =
+    outside headBytes mostBytes (length bytes) || not (begins (ascii "ARB") bytes) || not (eqb (fileVersion bytes) 1)
+    || not (eqb (length bytes) (fileBytes (fileSamples bytes) (fileRuns bytes)))
+
+-- what a file is: bad, or good with its n and k
+unfoldable pub fileOf : List ℕ → File
+fileOf bytes = cond (badFile bytes) Bad (Good (fileSamples bytes) (fileRuns bytes))
+
+-- "k slots of 2n+1 such numbers": "identifier, then the row"
+unfoldable pub slotIdentifier : List ℕ → ℕ → ℕ → ℕ
+slotIdentifier bytes n j = wordAt bytes (fileBytes n j)
+
+unfoldable pub slotRow : List ℕ → ℕ → ℕ → List ℕ
+slotRow bytes n j = tabulate (rowWords n) (λ i. wordAt bytes (fileBytes n j + 2 + 2 * i)) 0

@@ -1,0 +1,13 @@
+pub mod Ascii
+pub mod Decimal
+pub mod Files
+pub mod Lines
+pub mod Writing
+pub mod Marks
+pub mod DecimalLaws
+pub mod FileLaws
+pub mod LineLaws
+pub mod WritingLaws
+pub mod BelowLaws
+pub mod MarkLaws
+pub mod Specimen
