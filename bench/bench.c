@@ -54,13 +54,16 @@ static double now(void) {
     return t.tv_sec + 1e-9 * t.tv_nsec;
 }
 
-// Seconds that one call takes: the mean over at least a fifth of a second.
+// Seconds that one call takes: the least of the calls that fill a second.
 static double seconds(void (*call)(enum engine), enum engine e) {
-    double start = now();
-    int calls = 0;
-    do call(e), calls++;
-    while (now() - start < 0.2);
-    return (now() - start) / calls;
+    double start = now(), least = 1e9;
+    while (now() - start < 1) {
+        double begun = now();
+        call(e);
+        double taken = now() - begun;
+        if (taken < least) least = taken;
+    }
+    return least;
 }
 
 static void compare_answers(void) {
