@@ -26,6 +26,13 @@ bytes-next n j =
     let e : 2 * (j + 1) ≡ 2 * j + 2 = omega arith in
     rw (e, add-mul) (omega arith)
 
+-- fewer slots have no more bytes
+pub bytes-order : (n j k : ℕ) → j ≤ k → fileBytes n j ≤ fileBytes n k
+unfolding fileBytes
+bytes-order n j k h =
+    let a : 2 * j ≤ 2 * k = omega arith in
+    omega (arith, mul-le-mul-right (2 * n + 1) a)
+
 -- no factor is above the product
 pub factor-below : (n k : ℕ) → 2 * k + headBytes ≤ fileBytes n k
 unfolding fileBytes
@@ -132,11 +139,6 @@ good-file bytes n k e = go (badFile bytes) refl e
     go true p q = let z : _≡_ {A = ℕ} 0 1 = cc in absurd (omega arith)
     go false p q = ((cc), (cc), not-bad bytes p)
 
--- each slot of a good file lies within its bytes
-pub good-slot : (bytes : List ℕ) (n k j : ℕ) → fileOf bytes ≡ Good n k → j < k → fileBytes n (j + 1) ≤ length bytes
-unfolding fileBytes
-good-slot bytes n k j e h =
-    let a : 2 * (j + 1) ≤ 2 * k = omega arith in
-    let g = good-file bytes n k e in
-    let l : length bytes ≡ fileBytes n k = g .2 .long ∙ rw (← g .0, ← g .1) refl in
-    omega (arith, mul-le-mul-right (2 * n + 1) a)
+-- a good file is as long as its n and k say
+pub good-length : (bytes : List ℕ) (n k : ℕ) → fileOf bytes ≡ Good n k → length bytes ≡ fileBytes n k
+good-length bytes n k e = let g = good-file bytes n k e in g .2 .long ∙ rw (← g .0, ← g .1) refl

@@ -1,6 +1,6 @@
 -- The lines of the listing.
 use Prim.Native.Nat.{ℕ, suc, _-_}
-use mathlib.Core.List.{List, [], _∷_, _++_, map, flatten}
+use mathlib.Core.List.{List, [], _∷_, _++_, map}
 use mathlib.Core.Bool.{cond}
 use lib.Dec.{eqb}
 use lib.ListN.{getD}
@@ -46,5 +46,5 @@ unfoldable pub refusalLine : ℕ → ℕ → ℕ → List ℕ
 refusalLine number slot place = lineOf (ascii "refused") (decimal number ∷ decimal slot ∷ decimal place ∷ [])
 
 -- "Each further line is one inner node in rising order"
-unfoldable pub listingText : ℕ → ℕ → List ℕ → List ℕ → List ℕ
-listingText n k row support = headLine n k ++ flatten (tabulate (nodes row - n) (nodeLine n row support) n)
+unfoldable pub treeLines : ℕ → ℕ → List ℕ → List ℕ → List (List ℕ)
+treeLines n k row support = headLine n k ∷ tabulate (nodes row - n) (nodeLine n row support) n

@@ -9,7 +9,7 @@ use Rattle.text.specs.declared.file.File.the-variants.{Good}
 use Rattle.text.specs.Ascii.{ascii}
 use Rattle.text.specs.Decimal.{digits, decimal}
 use Rattle.text.specs.Files.{wordAt, fileBytes, begins, badFile, fileOf, slotIdentifier, slotRow}
-use Rattle.text.specs.Lines.{spaced, lineOf, headLine, parentField, samplesOf, nodeLine, refusalLine, listingText}
+use Rattle.text.specs.Lines.{spaced, lineOf, headLine, parentField, samplesOf, nodeLine, refusalLine, treeLines}
 
 -- ---- the file
 
@@ -55,8 +55,8 @@ abbrev pub supportRow : List ℕ
 supportRow = 3 ∷ 3 ∷ 3 ∷ 3 ∷ 3 ∷ 3 ∷ 3 ∷ 2 ∷ 2 ∷ 2 ∷ []
 
 -- "Whole output"
-pub specimen-listing : listingText 5 3 agreedRow supportRow ≡ ascii "ARB 1 5 3\n5 - 3 0 1 2 3 4\n6 5 2 0 1 2\n7 6 2 0 1\n8 5 2 3 4\n"
-unfolding listingText headLine nodeLine lineOf spaced parentField samplesOf flatten decimal digits tabulate filter nodes parent groupAt meets
+pub specimen-listing : flatten (treeLines 5 3 agreedRow supportRow) ≡ ascii "ARB 1 5 3\n5 - 3 0 1 2 3 4\n6 5 2 0 1 2\n7 6 2 0 1\n8 5 2 3 4\n"
+unfolding treeLines headLine nodeLine lineOf spaced parentField samplesOf flatten decimal digits tabulate filter nodes parent groupAt meets
 specimen-listing = refl
 
 -- "`refused R J P`"

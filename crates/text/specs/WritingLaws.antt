@@ -4,7 +4,7 @@ use mathlib.Core.Path.{_≡_, refl, sym, ap, _∙_}
 use mathlib.Core.List.{List, [], _∷_, _++_}
 use native.Mathlib.Nat.{add-zero, add-suc, suc-add, zero-add}
 use native.Mathlib.Omega.{arith}
-use lib.ListN.{length, drop, set, length-append, take-append-drop}
+use lib.ListN.{length, drop, set, length-append, length-take, take-append-drop}
 use lib.Seq.{sets, length-sets, sets-eq, set-comm, take-append-seam, drop-append-seam}
 use Rattle.text.specs.Writing.{Put, Written}
 
@@ -45,6 +45,9 @@ put-written {line} {l} {m} {r} h p =
       front = rw (long, whole) (take-append-seam line (drop (length line) l));
       rest = rw (long, whole) (drop-append-seam line (drop (length line) l));
     }
+
+pub written-within : {line l m : List ℕ} {r : ℕ} → Written line l m r → r ≤ length m
+written-within {line} {l} {m} {r} p = omega (arith, length-take r m, p .long, ap length (p .front))
 
 -- ---- what is written is settled
 
