@@ -1,0 +1,130 @@
+/*
+ * arb: runs of one sample set, and the tree that more than half of them hold.
+ *
+ * SAMPLES, ROWS AND GROUPS. There are n samples, numbered 0 to n-1, with n from 2 to 512. A run is one rooted tree whose leaves are the
+ * samples. It has m nodes, n+1 to 2n-1 of them: nodes 0 to n-1 are the samples, nodes n to m-1 the inner nodes. A tree is handed over as a
+ * row of 2n 16-bit words, ARB_ROW_WORDS(n):
+ *
+ *     word 0                  m
+ *     word 1+v, v below m     the parent of node v: an inner node, or ARB_ROOT_MARK where v is the root, which is an inner node too
+ *     the words after that    filler, 0
+ *
+ * There is one root, each node leads up to it, and each inner node has two children or more. Inner nodes of a row that you hand in may
+ * be numbered in any order. The group of a node is the set of samples at or below it; two rows are the same tree if they have the same
+ * groups. Rows that the library writes or stores are in standard numbering: inner nodes from n on, by falling group size, and where sizes
+ * are equal by rising smallest sample. The root is then n, and the same tree has the same words. The tree ((0,1),2), n = 3:
+ *
+ *     5 4 4 3 65535 3     in standard numbering: 3 is the root, and 4, the parent of samples 0 and 1, stands below it
+ *     5 3 3 4 4 65535     the same tree with 3 and 4 the other way round
+ *
+ * STUDIES. A study is a buffer of yours that holds runs, each under an identifier from 1 to 65535 that you choose. Those that were added
+ * and not withdrawn are the runs in force, at most 1024 of them. It needs ARB_STUDY_WORDS(n, runs) words, and has room for
+ * (length - 8) / (2n + 1) runs, rounded down. It holds no pointers: it can be copied, stored and read again, and copied into a longer buffer
+ * whose further words are 0 it has more room.
+ *
+ *     words 0 to 3            65, 82, 66 (the mark ARB), 1 (the version)
+ *     words 4 and 5           n, and k, the number of runs in force
+ *     words 6 and 7           0
+ *     from word 8 on          k slots of 2n+1 words: an identifier, then its row in standard numbering; identifiers rise
+ *     the words after that    0, to the end of the buffer
+ *
+ * THE REPORT. With k runs in force the agreed tree has exactly the groups that are held by more than half of them: twice the number of
+ * runs that hold the group is greater than k. The support row, of 2n words as well, stands beside the agreed row: word 0 is k, word 1+v the
+ * number of runs that hold the group of node v, and filler is 0.
+ *
+ * BUFFERS. Each is a pointer and its length in 16-bit words, not bytes. The pointer is aligned for uint16_t and valid for that many words; it
+ * may be NULL only where the length is 0. A buffer that a call writes (its pointer is not const) must not overlap another buffer of that call.
+ * Any words may be handed in: each call checks them itself and stays within the buffers. After a refusal no word of them differs.
+ *
+ * The library keeps nothing between calls and takes no memory: calls may run at the same time on different buffers, or on the same ones where
+ * none is written. No call needs more than 64 KiB of stack. It uses memcpy and memset of the C library, and is for x86-64 Linux.
+ */
+#ifndef ARB_H
+#define ARB_H
+
+#include <stddef.h>
+#include <stdint.h>
+
+#ifdef __cplusplus
+extern "C" {
+#endif
+
+#define ARB_FEWEST_SAMPLES 2
+#define ARB_MOST_SAMPLES 512
+#define ARB_MOST_RUNS 1024
+#define ARB_LEAST_IDENTIFIER 1
+#define ARB_MOST_IDENTIFIER 65535
+#define ARB_ROOT_MARK 65535
+
+/* Words of a row over n samples, of a study's header, of one run in it, and of a study with room for so many runs. */
+#define ARB_ROW_WORDS(n) (2 * (size_t)(n))
+#define ARB_HEADER_WORDS 8
+#define ARB_SLOT_WORDS(n) (ARB_ROW_WORDS(n) + 1)
+#define ARB_STUDY_WORDS(n, runs) (ARB_HEADER_WORDS + (size_t)(runs) * ARB_SLOT_WORDS(n))
+
+/*
+ * ANSWERS. Each call answers a uint64_t: accepted, or a refusal with a number and a place. The place is 0 unless the list says otherwise.
+ * An accepted arb_compare also has three counts. A node or a word at a place is counted from 0.
+ */
+#define ARB_ACCEPTED(answer) (ARB_NUMBER(answer) == 0)
+#define ARB_NUMBER(answer) ((unsigned)((answer) & 255u))
+#define ARB_PLACE(answer) ((unsigned)((answer) >> 8)) /* of a refusal */
+#define ARB_IN_BOTH(answer) ((unsigned)((answer) >> 16 & 65535u)) /* of an accepted arb_compare, as the two below */
+#define ARB_ONLY_FIRST(answer) ((unsigned)((answer) >> 32 & 65535u))
+#define ARB_ONLY_SECOND(answer) ((unsigned)((answer) >> 48 & 65535u))
+
+enum arb_refusal {
+    ARB_REFUSAL_SAMPLES = 1,    /* n is outside 2 to 512 */
+    ARB_REFUSAL_STUDY = 2,      /* the study is not well formed: its words are not as written above, or its buffer has no room for one run */
+    ARB_REFUSAL_WORDS = 3,      /* a row or an output buffer is not 2n words; arb_open: the buffer has no room for one run */
+    ARB_REFUSAL_IDENTIFIER = 4, /* the identifier is 0 */
+    ARB_REFUSAL_NODES = 5,      /* m is outside n+1 to 2n-1 */
+    ARB_REFUSAL_PARENT = 6,     /* a sample's parent is not an inner node, or an inner node's is neither that nor 65535; place: the lowest such node */
+    ARB_REFUSAL_ROOT = 7,       /* the number of inner nodes with parent 65535 is not one */
+    ARB_REFUSAL_FILLER = 8,     /* filler is not 0; place: the lowest such word of the row */
+    ARB_REFUSAL_LOST = 9,       /* a node from which the parents never reach the root; place: the lowest such node */
+    ARB_REFUSAL_CHILDREN = 10,  /* an inner node with fewer than two children; place: the lowest such node */
+    ARB_REFUSAL_TAKEN = 11,     /* the identifier is already in force */
+    ARB_REFUSAL_FULL = 12,      /* no room: as many runs are in force as the buffer holds, or 1024 */
+    ARB_REFUSAL_ABSENT = 13,    /* the identifier is not in force */
+    ARB_REFUSAL_EMPTY = 14      /* no run is in force */
+};
+
+/*
+ * THE CALLS. Each makes the checks of the numbers named with it, in that order, and answers the first that fails.
+ */
+
+/* Opening: makes the buffer, whatever its words, a study over n samples with no run in force; every word behind the header becomes 0.
+   Refusals: 1, 3. */
+uint64_t arb_open(size_t n, uint16_t *study, size_t study_length);
+
+/* Adding: puts a run into the study, its row in standard numbering. `row` is not written.
+   Refusals: 2, 3, 4, 5 to 10 for the row, 11, 12. */
+uint64_t arb_add(uint16_t *study, size_t study_length, uint16_t identifier, const uint16_t *row, size_t row_length);
+
+/* Withdrawing: takes a run out of the study. Its room is free for another, and its identifier too.
+   Refusals: 2, 4, 13. */
+uint64_t arb_withdraw(uint16_t *study, size_t study_length, uint16_t identifier);
+
+/* Reporting: writes the agreed row and the support row, 2n words each. The study is not written.
+   Refusals: 2, 3 for either output, 14. */
+uint64_t arb_report(const uint16_t *study, size_t study_length, uint16_t *agreed, size_t agreed_length, uint16_t *support, size_t support_length);
+
+/* Judging: is the row one tree over n samples? Writes nothing.
+   Refusals: 1, 3, 5 to 10. */
+uint64_t arb_judge(size_t n, const uint16_t *row, size_t row_length);
+
+/* Renumbering: writes the same tree in standard numbering to `out`, 2n words. `row` is not written.
+   Refusals: 1, 3 for either buffer, 5 to 10. */
+uint64_t arb_renumber(size_t n, const uint16_t *row, size_t row_length, uint16_t *out, size_t out_length);
+
+/* Comparing: how many groups are in both rows, only in the first, only in the second. All groups count, those of one sample and of all
+   samples too. Writes nothing.
+   Refusals: 1, 3 for either row, 5 to 10 for the first row, then 5 to 10 for the second, whose places all have 2n added, 5 and 7 too. */
+uint64_t arb_compare(size_t n, const uint16_t *first, size_t first_length, const uint16_t *second, size_t second_length);
+
+#ifdef __cplusplus
+}
+#endif
+
+#endif
