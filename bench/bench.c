@@ -1,15 +1,11 @@
 // Times the library's report and its well-formedness check against plain C and against a hash table, in one process, as ratios.
 // Ends with 1 if an answer differs.
+#include "arb.h"
 #include "draws.h"
 #include "hashed.h"
 #include "plain.h"
 
-u64 arb_open(size_t n, u16 *words, size_t length);
-u64 arb_renumber(size_t n, const u16 *row, size_t row_length, u16 *out, size_t out_length);
-u64 arb_withdraw(u16 *words, size_t length, u16 identifier);
-u64 arb_report(const u16 *words, size_t length, u16 *agreed, size_t agreed_length, u16 *support, size_t support_length);
-
-enum { NOT_IN_FORCE = 13, ABSENT = 65535, ENGINES = 3 };
+enum { ABSENT = 65535, ENGINES = 3 };
 enum engine { LIBRARY, PLAIN, HASHED };
 
 static u16 words[HEADER + RUNS * (2 * SAMPLES + 1)];
@@ -45,7 +41,7 @@ static void report(enum engine e) {
 
 // The library's check alone: a withdrawal that is refused for its identifier has checked the whole study.
 static void check(enum engine e) {
-    if (e == PLAIN ? !plain_formed(words, length) : arb_withdraw(words, length, ABSENT) != NOT_IN_FORCE) fail("the check");
+    if (e == PLAIN ? !plain_formed(words, length) : arb_withdraw(words, length, ABSENT) != ARB_REFUSAL_ABSENT) fail("the check");
 }
 
 static double now(void) {

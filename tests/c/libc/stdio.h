@@ -1,0 +1,3 @@
+// What the C programs here use of this header.
+#pragma once
+int printf(const char *, ...);
