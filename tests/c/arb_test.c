@@ -1,0 +1,292 @@
+// Makes every call of include/arb.h on document 01's case and specimens, and on each refusal that the call can give.
+// Expected words follow document 01 alone. The last line is 'N passed, M failed'; the status is 0 only if M is 0 and N is not.
+#include "arb.h"
+#include <stdio.h>
+#include <string.h>
+
+enum { ROOT = 65535, ROOM = 48, GUARD = 4, GUARD_WORD = 48879, LENT_WORDS = GUARD + ROOM + GUARD, BUFFERS = 3 };
+
+#define COUNT(table) (sizeof(table) / sizeof *(table))
+
+// Words of a buffer: those that are not given are 0.
+struct words {
+    size_t length;
+    uint16_t at[ROOM];
+};
+
+enum call { OPEN, ADD, WITHDRAW, REPORT, JUDGE, RENUMBER, COMPARE };
+
+// A call: x is n or the identifier, `lent` its buffers in the order in which it takes them. A buffer that `left` does not give is to stay as it was.
+struct example {
+    const char *name;
+    enum call call;
+    size_t x;
+    uint64_t answer;
+    struct words lent[BUFFERS], left[BUFFERS];
+};
+
+#define ACCEPTED 0
+#define REFUSED(number, place) ((number) + 256 * (place))
+#define COUNTED(both, first, second) (65536 * ((both) + 65536 * ((first) + (uint64_t)65536 * (second))))
+
+// The case: three runs of 5 samples, and what more than half of them hold.
+#define RUN_1 8, 7, 7, 6, 5, 5, ROOT, 5, 6, 0
+#define RUN_2 8, 6, 6, 6, 7, 7, ROOT, 5, 5, 0
+#define RUN_2_OTHERWISE 8, 7, 7, 7, 6, 6, ROOT, 5, 5, 0
+#define RUN_3 9, 7, 7, 5, 8, 8, ROOT, 5, 6, 6
+#define AGREED 9, 7, 7, 6, 8, 8, ROOT, 5, 6, 5
+#define SUPPORT 3, 3, 3, 3, 3, 3, 3, 2, 2, 2
+
+// Rows of 2 and of 3 samples: the only tree of 2; {0,1}, the same in another numbering, {0,2}, and neither; one whose node 4 has one child.
+#define ONLY_OF_2 3, 2, 2, ROOT
+#define WITH_01 5, 4, 4, 3, ROOT, 3
+#define WITH_01_OTHERWISE 5, 3, 3, 4, 4, ROOT
+#define WITH_02 5, 4, 3, 4, ROOT, 3
+#define BARE_3 4, 3, 3, 3, ROOT, 0
+#define ONE_CHILD 5, 4, 3, 3, ROOT, 3
+
+#define OLD_6 9, 9, 9, 9, 9, 9
+#define OLD_10 OLD_6, 9, 9, 9, 9
+#define HEADER(n, k) 65, 82, 66, 1, n, k, 0, 0
+
+// A study of 5 samples with room for three runs, and one of 3 samples with room for two.
+#define STUDY_5(...) {ARB_STUDY_WORDS(5, 3), {__VA_ARGS__}}
+#define STUDY_3(...) {ARB_STUDY_WORDS(3, 2), {__VA_ARGS__}}
+#define ROW_5(...) {ARB_ROW_WORDS(5), {__VA_ARGS__}}
+#define ROW_3(...) {ARB_ROW_WORDS(3), {__VA_ARGS__}}
+#define NONE {0, {0}}
+
+#define CASE_0 STUDY_5(HEADER(5, 0))
+#define CASE_1 STUDY_5(HEADER(5, 1), 1, RUN_1)
+#define CASE_2 STUDY_5(HEADER(5, 2), 1, RUN_1, 2, RUN_2)
+#define CASE_3 STUDY_5(HEADER(5, 3), 1, RUN_1, 2, RUN_2, 3, RUN_3)
+#define CASE_WITHOUT_2 STUDY_5(HEADER(5, 2), 1, RUN_1, 3, RUN_3)
+
+static const struct example accepted[] = {
+    {"the case is opened over old words", OPEN, 5, ACCEPTED, {STUDY_5(OLD_10, OLD_10, OLD_10, OLD_10, 9)}, {CASE_0}},
+    {"room for one run is enough", OPEN, 2, ACCEPTED, {{13, {OLD_10, 9, 9, 9}}}, {{13, {HEADER(2, 0)}}}},
+    {"run 1 is added", ADD, 1, ACCEPTED, {CASE_0, ROW_5(RUN_1)}, {CASE_1}},
+    {"run 2 is added, in another numbering", ADD, 2, ACCEPTED, {CASE_1, ROW_5(RUN_2_OTHERWISE)}, {CASE_2}},
+    {"run 3 is added", ADD, 3, ACCEPTED, {CASE_2, ROW_5(RUN_3)}, {CASE_3}},
+    {"the case is reported", REPORT, 0, ACCEPTED, {CASE_3, ROW_5(OLD_10), ROW_5(OLD_10)}, {NONE, ROW_5(AGREED), ROW_5(SUPPORT)}},
+    {"run 2 is withdrawn", WITHDRAW, 2, ACCEPTED, {CASE_3}, {CASE_WITHOUT_2}},
+    {"run 2 is added in its old room", ADD, 2, ACCEPTED, {CASE_WITHOUT_2, ROW_5(RUN_2)}, {CASE_3}},
+    {"the last run is withdrawn", WITHDRAW, 1, ACCEPTED, {CASE_1}, {CASE_0}},
+    {"an identifier is added again with another tree", ADD, 1, ACCEPTED, {CASE_0, ROW_5(RUN_3)}, {STUDY_5(HEADER(5, 1), 1, RUN_3)}},
+    {"identifier 65535 is added", ADD, 65535, ACCEPTED, {{13, {HEADER(2, 0)}}, {4, {ONLY_OF_2}}}, {{13, {HEADER(2, 1), 65535, ONLY_OF_2}}}},
+    {"identifier 65535 is withdrawn", WITHDRAW, 65535, ACCEPTED, {{13, {HEADER(2, 1), 65535, ONLY_OF_2}}}, {{13, {HEADER(2, 0)}}}},
+    {"a longer buffer has more room", ADD, 7, ACCEPTED, {{29, {HEADER(3, 2), 5, WITH_02, 6, WITH_01}}, ROW_3(WITH_01)},
+        {{29, {HEADER(3, 3), 5, WITH_02, 6, WITH_01, 7, WITH_01}}}},
+    {"one run is reported itself", REPORT, 0, ACCEPTED, {CASE_1, ROW_5(OLD_10), ROW_5(OLD_10)}, {NONE, ROW_5(RUN_1), ROW_5(1, 1, 1, 1, 1, 1, 1, 1, 1, 0)}},
+    {"two halves are reported as neither", REPORT, 0, ACCEPTED, {STUDY_3(HEADER(3, 2), 1, WITH_01, 2, WITH_02), ROW_3(OLD_6), ROW_3(OLD_6)},
+        {NONE, ROW_3(BARE_3), ROW_3(2, 2, 2, 2, 2, 0)}},
+    {"the only tree of 2 is valid", JUDGE, 2, ACCEPTED, {{4, {ONLY_OF_2}}}},
+    {"a tree of 3 is valid", JUDGE, 3, ACCEPTED, {ROW_3(WITH_01)}},
+    {"it is valid in another numbering", JUDGE, 3, ACCEPTED, {ROW_3(WITH_01_OTHERWISE)}},
+    {"filler 0 is valid", JUDGE, 3, ACCEPTED, {ROW_3(BARE_3)}},
+    {"another numbering is renumbered", RENUMBER, 3, ACCEPTED, {ROW_3(WITH_01_OTHERWISE), ROW_3(OLD_6)}, {NONE, ROW_3(WITH_01)}},
+    {"run 2 is renumbered", RENUMBER, 5, ACCEPTED, {ROW_5(RUN_2_OTHERWISE), ROW_5(OLD_10)}, {NONE, ROW_5(RUN_2)}},
+    {"a standard row is renumbered to itself", RENUMBER, 5, ACCEPTED, {ROW_5(RUN_3), ROW_5(OLD_10)}, {NONE, ROW_5(RUN_3)}},
+    {"runs 1 and 2 are compared", COMPARE, 5, COUNTED(7, 1, 1), {ROW_5(RUN_1), ROW_5(RUN_2)}},
+    {"runs 3 and 1 are compared", COMPARE, 5, COUNTED(7, 2, 1), {ROW_5(RUN_3), ROW_5(RUN_1)}},
+    {"a tree is compared with itself", COMPARE, 3, COUNTED(5, 0, 0), {ROW_3(WITH_01), ROW_3(WITH_01_OTHERWISE)}},
+};
+
+static const struct example refused[] = {
+    {"open: n is 0", OPEN, 0, REFUSED(1, 0), {STUDY_3(OLD_10)}},
+    {"open: n is 1, and no room", OPEN, 1, REFUSED(1, 0), {NONE}},
+    {"open: n is 513", OPEN, 513, REFUSED(1, 0), {STUDY_3(OLD_10)}},
+    {"open: n is the largest size_t", OPEN, (size_t)-1, REFUSED(1, 0), {STUDY_3(OLD_10)}},
+    {"open: a word too few for one run", OPEN, 3, REFUSED(3, 0), {{14, {OLD_10, 9, 9, 9, 9}}}},
+    {"open: no words", OPEN, 512, REFUSED(3, 0), {NONE}},
+
+    {"add: another mark, and all else wrong", ADD, 0, REFUSED(2, 0), {STUDY_3(66, 82, 66, 1, 3), {5, {OLD_6}}}},
+    {"add: no study", ADD, 1, REFUSED(2, 0), {NONE, ROW_3(WITH_01)}},
+    {"add: a row of 2n - 1 words, and identifier 0", ADD, 0, REFUSED(3, 0), {STUDY_3(HEADER(3, 0)), {5, {WITH_01}}}},
+    {"add: a row of 2n + 1 words", ADD, 1, REFUSED(3, 0), {STUDY_3(HEADER(3, 0)), {7, {WITH_01}}}},
+    {"add: identifier 0, and a bad row", ADD, 0, REFUSED(4, 0), {STUDY_3(HEADER(3, 0)), ROW_3(ONE_CHILD)}},
+    {"add: a bad row, and an identifier in force", ADD, 6, REFUSED(10, 4), {STUDY_3(HEADER(3, 1), 6, WITH_01), ROW_3(ONE_CHILD)}},
+    {"add: an identifier in force", ADD, 6, REFUSED(11, 0), {STUDY_3(HEADER(3, 1), 6, WITH_01), ROW_3(WITH_02)}},
+    {"add: an identifier in force, and no room", ADD, 6, REFUSED(11, 0), {STUDY_3(HEADER(3, 2), 5, WITH_02, 6, WITH_01), ROW_3(WITH_02)}},
+    {"add: no room", ADD, 7, REFUSED(12, 0), {STUDY_3(HEADER(3, 2), 5, WITH_02, 6, WITH_01), ROW_3(WITH_02)}},
+
+    {"withdraw: a word behind the last slot, and identifier 0", WITHDRAW, 0, REFUSED(2, 0), {STUDY_3(HEADER(3, 1), 6, WITH_01, 1)}},
+    {"withdraw: a row in another numbering", WITHDRAW, 6, REFUSED(2, 0), {STUDY_3(HEADER(3, 1), 6, WITH_01_OTHERWISE)}},
+    {"withdraw: identifier 0", WITHDRAW, 0, REFUSED(4, 0), {STUDY_3(HEADER(3, 1), 6, WITH_01)}},
+    {"withdraw: an identifier not in force", WITHDRAW, 7, REFUSED(13, 0), {STUDY_3(HEADER(3, 1), 6, WITH_01)}},
+    {"withdraw: no run in force", WITHDRAW, 6, REFUSED(13, 0), {STUDY_3(HEADER(3, 0))}},
+
+    {"report: another version, and short outputs", REPORT, 0, REFUSED(2, 0), {STUDY_3(65, 82, 66, 2, 3), NONE, NONE}},
+    {"report: a short agreed row, and k is 0", REPORT, 0, REFUSED(3, 0), {STUDY_3(HEADER(3, 0)), {5, {OLD_6}}, ROW_3(OLD_6)}},
+    {"report: a long support row", REPORT, 0, REFUSED(3, 0), {STUDY_3(HEADER(3, 1), 6, WITH_01), ROW_3(OLD_6), {7, {OLD_6, 9}}}},
+    {"report: k is 0", REPORT, 0, REFUSED(14, 0), {STUDY_3(HEADER(3, 0)), ROW_3(OLD_6), ROW_3(OLD_6)}},
+
+    {"judge: n is 1, and no row", JUDGE, 1, REFUSED(1, 0), {NONE}},
+    {"judge: n is 513", JUDGE, 513, REFUSED(1, 0), {ROW_3(WITH_01)}},
+    {"judge: a row of 2n - 1 words", JUDGE, 3, REFUSED(3, 0), {{5, {ONE_CHILD}}}},
+    {"judge: a row of 2n + 1 words", JUDGE, 3, REFUSED(3, 0), {{7, {WITH_01}}}},
+
+    {"renumber: n is 1", RENUMBER, 1, REFUSED(1, 0), {ROW_3(WITH_01), NONE}},
+    {"renumber: n is 513", RENUMBER, 513, REFUSED(1, 0), {ROW_3(WITH_01), ROW_3(OLD_6)}},
+    {"renumber: a short row", RENUMBER, 3, REFUSED(3, 0), {{5, {ONE_CHILD}}, ROW_3(OLD_6)}},
+    {"renumber: a long output, and a bad row", RENUMBER, 3, REFUSED(3, 0), {ROW_3(ONE_CHILD), {7, {OLD_6, 9}}}},
+
+    {"compare: n is 1", COMPARE, 1, REFUSED(1, 0), {ROW_3(WITH_01), NONE}},
+    {"compare: n is 513", COMPARE, 513, REFUSED(1, 0), {ROW_3(WITH_01), ROW_3(WITH_02)}},
+    {"compare: a short first row", COMPARE, 3, REFUSED(3, 0), {{5, {WITH_01}}, ROW_3(WITH_02)}},
+    {"compare: a long second row, and a bad first", COMPARE, 3, REFUSED(3, 0), {ROW_3(ONE_CHILD), {7, {WITH_02}}}},
+    {"compare: two bad rows", COMPARE, 3, REFUSED(10, 4), {ROW_3(ONE_CHILD), ROW_3(5, 2, 3, 3, ROOT, 3)}},
+};
+
+// Rows of 3 samples that are refused, with number and place.
+static const struct bad_row {
+    uint64_t number, place;
+    struct words row;
+} bad_rows[] = {
+    {5, 0, ROW_3(3, 4, 4, 3, ROOT, 3)},
+    {5, 0, ROW_3(6, 4, 4, 3, ROOT, 3)},
+    {6, 0, ROW_3(5, 2, 3, 3, ROOT, 3)},
+    {7, 0, ROW_3(5, 4, 4, 3, ROOT, ROOT)},
+    {8, 5, ROW_3(4, 3, 3, 3, ROOT, 7)},
+    {9, 4, ROW_3(5, 3, 3, 3, ROOT, 4)},
+    {10, 4, ROW_3(ONE_CHILD)},
+};
+
+static int passed, failed;
+
+static void tell(const char *name, int is_right) {
+    if (is_right) {
+        passed++;
+        return;
+    }
+    failed++;
+    printf("failed: %s\n", name);
+}
+
+// A buffer among guard words.
+struct lent {
+    uint16_t words[LENT_WORDS];
+};
+
+static void lend(struct lent *to, const struct words *from) {
+    for (size_t i = 0; i < LENT_WORDS; i++) to->words[i] = GUARD_WORD;
+    memcpy(to->words + GUARD, from->at, from->length * sizeof *from->at);
+}
+
+static void say(uint64_t answer) {
+    if (ARB_ACCEPTED(answer)) printf("accepted, counts %u %u %u", ARB_IN_BOTH(answer), ARB_ONLY_FIRST(answer), ARB_ONLY_SECOND(answer));
+    else printf("refused with %u at %u", ARB_NUMBER(answer), ARB_PLACE(answer));
+    printf(" (%lx)", (unsigned long)answer);
+}
+
+static int same_answer(uint64_t expected, uint64_t came) {
+    if (came == expected) return 1;
+    printf("expected "), say(expected), printf(", came "), say(came), printf("\n");
+    return 0;
+}
+
+// Whether a buffer and its guards are as expected. A word before or behind the buffer is a guard.
+static int same_words(int buffer, const struct lent *expected, const struct lent *came) {
+    for (int i = 0; i < LENT_WORDS; i++) {
+        if (came->words[i] == expected->words[i]) continue;
+        printf("buffer %d, word %d: expected %u, came %u\n", buffer, i - GUARD, expected->words[i], came->words[i]);
+        return 0;
+    }
+    return 1;
+}
+
+static uint64_t answer_of(const struct example *e, struct lent *lent) {
+    uint16_t *a = lent[0].words + GUARD, *b = lent[1].words + GUARD, *c = lent[2].words + GUARD;
+    size_t la = e->lent[0].length, lb = e->lent[1].length, lc = e->lent[2].length;
+    switch (e->call) {
+    case OPEN: return arb_open(e->x, a, la);
+    case ADD: return arb_add(a, la, (uint16_t)e->x, b, lb);
+    case WITHDRAW: return arb_withdraw(a, la, (uint16_t)e->x);
+    case REPORT: return arb_report(a, la, b, lb, c, lc);
+    case JUDGE: return arb_judge(e->x, a, la);
+    case RENUMBER: return arb_renumber(e->x, a, la, b, lb);
+    case COMPARE: return arb_compare(e->x, a, la, b, lb);
+    }
+    return ~(uint64_t)0;
+}
+
+static void test_example(const struct example *e) {
+    struct lent lent[BUFFERS], expected[BUFFERS];
+    for (int i = 0; i < BUFFERS; i++) {
+        lend(&lent[i], &e->lent[i]);
+        lend(&expected[i], e->left[i].length ? &e->left[i] : &e->lent[i]);
+    }
+    int is_right = same_answer(e->answer, answer_of(e, lent));
+    for (int i = 0; i < BUFFERS; i++) is_right &= same_words(i, &expected[i], &lent[i]);
+    tell(e->name, is_right);
+}
+
+static void test_bad_row(const struct bad_row *bad) {
+    static const struct words study = STUDY_3(HEADER(3, 1), 6, WITH_01), good = ROW_3(BARE_3), old = ROW_3(OLD_6);
+    uint64_t answer = REFUSED(bad->number, bad->place), moved = REFUSED(bad->number, bad->place + 6);
+    const struct example examples[] = {
+        {"add: a bad row", ADD, 7, answer, {study, bad->row}},
+        {"judge: a bad row", JUDGE, 3, answer, {bad->row}},
+        {"renumber: a bad row", RENUMBER, 3, answer, {bad->row, old}},
+        {"compare: a bad first row", COMPARE, 3, answer, {bad->row, good}},
+        {"compare: a bad second row", COMPARE, 3, moved, {good, bad->row}},
+    };
+    for (size_t i = 0; i < COUNT(examples); i++) test_example(&examples[i]);
+}
+
+static void test_without_buffers(void) {
+    tell("open: NULL and no words", same_answer(3, arb_open(5, NULL, 0)));
+    tell("add: NULL and no words", same_answer(2, arb_add(NULL, 0, 1, NULL, 0)));
+    tell("withdraw: NULL and no words", same_answer(2, arb_withdraw(NULL, 0, 1)));
+    tell("report: NULL and no words", same_answer(2, arb_report(NULL, 0, NULL, 0, NULL, 0)));
+    tell("judge: NULL and no words", same_answer(3, arb_judge(5, NULL, 0)));
+    tell("renumber: NULL and no words", same_answer(3, arb_renumber(5, NULL, 0, NULL, 0)));
+    tell("compare: NULL and no words", same_answer(3, arb_compare(5, NULL, 0, NULL, 0)));
+}
+
+// "2 and 512 are taken": the tree of 512 samples without groups between.
+static void test_most_samples(void) {
+    enum { N = ARB_MOST_SAMPLES };
+    static uint16_t study[ARB_STUDY_WORDS(N, 1)], row[ARB_ROW_WORDS(N)], agreed[ARB_ROW_WORDS(N)], support[ARB_ROW_WORDS(N)];
+    row[0] = N + 1;
+    for (int v = 0; v < N; v++) row[1 + v] = N;
+    row[1 + N] = ARB_ROOT_MARK;
+    tell("512 samples are taken", same_answer(ACCEPTED, arb_open(N, study, COUNT(study))));
+    tell("their run is added", same_answer(ACCEPTED, arb_add(study, COUNT(study), ARB_MOST_IDENTIFIER, row, COUNT(row))));
+    tell("their run is reported", same_answer(ACCEPTED, arb_report(study, COUNT(study), agreed, COUNT(agreed), support, COUNT(support))));
+    tell("the agreed row is the run", memcmp(agreed, row, sizeof row) == 0);
+    tell("its support is 1", support[0] == 1 && support[1 + N] == 1 && support[2 + N] == 0);
+}
+
+// "The 1,025th run gives 12; after a withdrawal it is taken."
+static void test_most_runs(void) {
+    static uint16_t study[ARB_STUDY_WORDS(2, ARB_MOST_RUNS + 1)];
+    static const uint16_t row[] = {ONLY_OF_2};
+    uint64_t answers = arb_open(2, study, COUNT(study));
+    for (uint16_t id = 1; id <= ARB_MOST_RUNS; id++) answers |= arb_add(study, COUNT(study), id, row, COUNT(row));
+    tell("1024 runs are taken", same_answer(ACCEPTED, answers) && study[5] == ARB_MOST_RUNS);
+    tell("the 1025th is refused", same_answer(12, arb_add(study, COUNT(study), 1025, row, COUNT(row))));
+    tell("one is withdrawn", same_answer(ACCEPTED, arb_withdraw(study, COUNT(study), 7)));
+    tell("the 1025th is taken", same_answer(ACCEPTED, arb_add(study, COUNT(study), 1025, row, COUNT(row))) && study[5] == ARB_MOST_RUNS);
+}
+
+// The macros, on numbers packed by hand: 10 at place 4, and 7, 1 and 1 counted.
+static void test_macros(void) {
+    uint64_t answer = 0x40A, counted = 0x0001000100070000;
+    tell("an answer of 0 is accepted", ARB_ACCEPTED((uint64_t)0) && ARB_NUMBER((uint64_t)0) == 0);
+    tell("a refusal's number and place", !ARB_ACCEPTED(answer) && ARB_NUMBER(answer) == ARB_REFUSAL_CHILDREN && ARB_PLACE(answer) == 4);
+    tell("three counts", ARB_ACCEPTED(counted) && ARB_IN_BOTH(counted) == 7 && ARB_ONLY_FIRST(counted) == 1 && ARB_ONLY_SECOND(counted) == 1);
+    tell("words of rows and studies", ARB_ROW_WORDS(5) == 10 && ARB_SLOT_WORDS(5) == 11 && ARB_STUDY_WORDS(5, 3) == 41 && ARB_STUDY_WORDS(2, 1) == 13);
+}
+
+int main(void) {
+    for (size_t i = 0; i < COUNT(accepted); i++) test_example(&accepted[i]);
+    for (size_t i = 0; i < COUNT(refused); i++) test_example(&refused[i]);
+    for (size_t i = 0; i < COUNT(bad_rows); i++) test_bad_row(&bad_rows[i]);
+    test_without_buffers();
+    test_most_samples();
+    test_most_runs();
+    test_macros();
+    printf("%d passed, %d failed\n", passed, failed);
+    return failed != 0 || passed == 0;
+}
