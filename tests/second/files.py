@@ -264,19 +264,43 @@ def with_other_head(rng: Random, data: bytes) -> bytes:
     return data[:place] + bytes([rng.randrange(256)]) + data[place + 1 :]
 
 
-def random_file(rng: Random) -> bytes:
-    """A file: mostly valid, or with a slot that is refused, or bad."""
+def random_valid(rng: Random) -> bytes:
+    """A valid file."""
     n = rows.some_size(rng)
-    k = rng.randint(1, 3 if n > 40 else 12)
-    data = file_of_trees(rng, n, shapes.any_runs(rng, n, k))
-    kind = rng.choice(["valid", "valid", "valid", "row", "row", "identifiers", "bad"])
-    if kind == "row":
-        return with_row(rng, n, rows.any_row(rng, n))
-    if kind == "identifiers":
-        return with_identifiers(rng, n, rng.choice([[0], [7, 7], [7, 0, 7]]))
-    if kind == "bad":
-        return rng.choice([cut_or_drawn_out, with_other_head])(rng, data)
-    return data
+    return file_of_trees(rng, n, shapes.any_runs(rng, n, rng.randint(1, 3 if n > 40 else 12)))
+
+
+def random_row(rng: Random) -> bytes:
+    """A file with a row of any kind in some slot."""
+    n = rows.some_size(rng)
+    return with_row(rng, n, rows.any_row(rng, n))
+
+
+def random_identifiers(rng: Random) -> bytes:
+    """A file with identifier 0, or with one that stands twice."""
+    return with_identifiers(rng, rows.some_size(rng), rng.choice([[0], [7, 7], [7, 0, 7]]))
+
+
+def random_sizes(rng: Random) -> bytes:
+    """A file without slots, of an n that is none, or of more runs than have room."""
+    n = rng.choice([0, 1, rng.randint(513, 2000), rng.randint(2, 512)])
+    if rng.random() < 0.2:
+        return file_of_trees(rng, 2, shapes.runs_equal(rng, 2, MOST_RUNS + rng.randint(0, 2)))
+    k = rng.randint(0, 3) if not 2 <= n <= 512 else 0
+    return head(n, k) + to_bytes(rows.old_words(rng, k * slot_width(n)))
+
+
+def random_bad(rng: Random) -> bytes:
+    """A file of another length, or with another head."""
+    return rng.choice([cut_or_drawn_out, with_other_head])(rng, random_valid(rng))
+
+
+RANDOM = 4 * [random_valid] + 3 * [random_row] + [random_identifiers, random_sizes, random_bad]
+
+
+def random_file(rng: Random) -> bytes:
+    """A file: valid or not, in any of these ways."""
+    return rng.choice(RANDOM)(rng)
 
 
 def write(folder: Path) -> None:
