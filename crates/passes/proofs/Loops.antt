@@ -18,7 +18,8 @@ use Rattle.trees.specs.Passes.{node, part, Stage, offsetAt, Stepped, Offsets, S
 use Rattle.trees.specs.Valid.{Standard}
 use Rattle.trees.specs.BoolLaws.{decide}
 use Rattle.trees.specs.NeverLaws.{side}
-use Rattle.trees.specs.FallsLaws.{standard-falls, few, due-low, due-due, due-one, due-root}
+use Rattle.trees.specs.FallsLaws.{standard-falls, few}
+use Rattle.trees.specs.TurnLaws.{due-low, due-due, due-one, due-root}
 use Rattle.trees.specs.TableLaws.{tabled-more, tabled-none, Folds, adds, size-over}
 use Rattle.trees.specs.PassLaws.{node-child, node-parent, stage-start, stage-step, stage-end, part-size, size-join}
 use Rattle.trees.specs.Mates.{mateOf, candidate, candidateOf, fitting, confirmed, fromEnd, Spread}

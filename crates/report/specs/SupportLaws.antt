@@ -16,7 +16,7 @@ use Rattle.trees.specs.Tables.{Tabled, entry}
 use Rattle.trees.specs.Reporting.{Run, support, majority, agreed, supports}
 use Rattle.trees.specs.BoolLaws.{decide}
 use Rattle.trees.specs.ListLaws.{count-all}
-use Rattle.trees.specs.RowLaws.{leaf-group}
+use Rattle.trees.specs.RowLaws.{leaf-group, valid-rooted}
 use Rattle.trees.specs.NumberingLaws.{row-tree}
 use Rattle.trees.specs.ReportingLaws.{Runs, Sound, total-length, majority-sound, majority-standard, supports-length, supports-first, supports-node, supports-filler}
 use Rattle.runs.specs.Words.{runs}
@@ -53,7 +53,7 @@ module _ (w : List ℕ) (n k : ℕ) (study : Study w n k) (some : 0 < k) where
 
     -- every run holds the single samples
     at-leaf : (v : ℕ) → v < n → support n (runs w) (groupAt n r v) ≡ k
-    at-leaf v h = ap (support n (runs w)) (leaf-group n r (std .valid) v h)
+    at-leaf v h = ap (support n (runs w)) (leaf-group n r (valid-rooted n r (std .valid)) v h)
         ∙ support-all n (runs w) (single n v) (λ run m. row-tree n (run .row) (ok run m) .leaf v h) ∙ study-length w n k study
 
     inside : (i : ℕ) → i ≤ nodes r → (leb i n ≡ true) ⊎ (leb i n ≡ false) → cond (leb i n) k (entry holders (i - 1)) ≡ getD (supports majority n (runs w)) i 0

@@ -20,8 +20,10 @@ use Rattle.runs.specs.Runs.{every, find, insertRun}
 use Rattle.runs.specs.Words.{samples, inForce, runs, mostIdentifier, capacity}
 use Rattle.runs.specs.Formed.{Rising}
 use Rattle.runs.specs.Calls.{opened, added, stores}
-use Rattle.runs.specs.Histories.{Call, add, withdraw, identified, after, answers, studyAfter, lastAccepted, leaves, StandsFor, Distinct, Anew, adds, Renewed, Shuffled, done, keep, swap, both}
-use Rattle.runs.specs.RunLaws.{Absent, cond-swap, find-below, find-here, find-past, absent-head, absent-tail, absent-member, find-named, find-member, find-above, rising-unique, find-insert, insert-rising, length-insert}
+use Rattle.runs.specs.Histories.{Call, add, withdraw, identified, after, answers, studyAfter, lastAccepted, leaves, StandsFor}
+use Rattle.runs.specs.Histories.{Distinct, Anew, adds, Renewed, Shuffled, done, keep, swap, both}
+use Rattle.runs.specs.RunLaws.{Absent, cond-swap, find-below, find-here, find-past, absent-head, absent-tail, absent-member}
+use Rattle.runs.specs.RunLaws.{find-named, find-member, find-above, rising-unique, find-insert, insert-rising, length-insert}
 use Rattle.runs.specs.WordLaws.{length-runs}
 use Rattle.runs.specs.FormedLaws.{formed-unique}
 use Rattle.runs.specs.CallLaws.{Kept, kept-on, opened-accepts, opened-kept, opened-none}

@@ -17,7 +17,8 @@ use Rattle.trees.specs.Reporting.{Run, Rule, majority, support, agreed, support
 use Rattle.trees.specs.ListLaws.{length-tabulate}
 use Rattle.trees.specs.ChainLaws.{isRising, Exactly, refused-exactly, chain-passed, line-passes}
 use Rattle.trees.specs.NumberingLaws.{standard-unique}
-use Rattle.trees.specs.ReportingLaws.{Runs, Sound, total-length, majority-sound, majority-standard, majority-groups, majority-supports, supports-length, supports-first, supports-node, supports-filler}
+use Rattle.trees.specs.ReportingLaws.{Runs, Sound, total-length, majority-sound, majority-standard, majority-groups}
+use Rattle.trees.specs.ReportingLaws.{majority-supports, supports-length, supports-first, supports-node, supports-filler}
 use Rattle.runs.specs.Words.{samples, inForce, runs, runAt}
 use Rattle.runs.specs.Formed.{wellFormed, Formed}
 use Rattle.runs.specs.FormedLaws.{formed-to}

@@ -8,6 +8,5 @@ pub mod DecimalLaws
 pub mod FileLaws
 pub mod LineLaws
 pub mod WritingLaws
-pub mod BelowLaws
 pub mod MarkLaws
 pub mod Specimen

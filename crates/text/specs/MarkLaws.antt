@@ -14,7 +14,7 @@ use Rattle.trees.specs.Rows.{nodes, parent, meets, groupAt}
 use Rattle.trees.specs.Valid.{Standard}
 use Rattle.trees.specs.BoolLaws.{decide}
 use Rattle.trees.specs.WayLaws.{meets-refl}
-use Rattle.text.specs.BelowLaws.{above-low, above-later, has-sample}
+use Rattle.trees.specs.BelowLaws.{above-low, above-later, has-sample}
 use Rattle.text.specs.Marks.{Marked, parentMarked}
 
 module _ (n : ℕ) (row : List ℕ) (std : Standard n row) (v : ℕ) (a : n ≤ v) where

@@ -20,9 +20,11 @@ use Rattle.trees.specs.Climbing.{Raised, Raising, climbed, nearest, pare
 use Rattle.trees.specs.BoolLaws.{decide}
 use Rattle.trees.specs.GroupLaws.{Within}
 use Rattle.trees.specs.WayLaws.{meets-past, meets-line}
-use Rattle.trees.specs.RowLaws.{Above, group-has, in-group, child-above, child-within}
+use Rattle.trees.specs.RowLaws.{Above, group-has, in-group, child-above, child-within, valid-rooted}
+use Rattle.trees.specs.NeverLaws.{side}
+use Rattle.trees.specs.StandardLaws.{not-up}
 use Rattle.trees.specs.TableLaws.{tabled-none}
-use Rattle.trees.specs.FallsLaws.{standard-falls, turn-inner, above-due}
+use Rattle.trees.specs.FallsLaws.{standard-falls}
 
 module _ {n : ℕ} {r : List ℕ} (std : Standard n r) where
   falls : Falls n r
@@ -30,24 +32,24 @@ module _ {n : ℕ} {r : List ℕ} (std : Standard n r) where
 
   -- ---- nodes that share a sample stand in line
 
-  above-low : (w v : ℕ) → Above r w v → n ≤ v → v < nodes r → n ≤ w → w < nodes r → w ≤ v
-  above-low w v m a h b k = omega (arith, above-due n r falls (nodes r) w v m h, turn-inner n (nodes r) v a, turn-inner n (nodes r) w b)
+  above-low : (w v : ℕ) → Above r w v → n ≤ v → w < nodes r → w ≤ v
+  above-low w v m a h = ⊎-elim (λ l. absurd (not-up n r std v w a l h m)) (λ l. l) (side w v)
 
   -- what has a node's sample and a lower number is not behind its parent
   parent-last : (v w s : ℕ) → n ≤ w → w < v → v < nodes r → has (groupAt n r v) s ≡ true → has (groupAt n r w) s ≡ true → w ≤ parent r v
-  parent-last v w s a h k e f = ⊎-elim up (λ m. absurd (omega (arith, above-low v w m a (omega arith) (omega arith) k))) (meets-line r (nodes r) v w s (group-has n r v s e .1) (group-has n r w s f .1))
+  parent-last v w s a h k e f = ⊎-elim up (λ m. absurd (not-up n r std w v a h k m)) (meets-line r (nodes r) v w s (group-has n r v s e .1) (group-has n r w s f .1))
     where
       up : Above r w v → w ≤ parent r v
-      up m = let t = falls .down v (omega arith) k in above-low w (parent r v) (meets-past r (nodes r) w v (λ q. omega arith) m) (t .0) (omega arith) a (omega arith)
+      up m = let t = falls .down v (omega arith) k in above-low w (parent r v) (meets-past r (nodes r) w v (λ q. omega arith) m) (t .0) (omega arith)
 
   parent-has : (v s : ℕ) → n < v → v < nodes r → has (groupAt n r v) s ≡ true → has (groupAt n r (parent r v)) s ≡ true
-  parent-has v s a h e = child-within n r (std .valid) v (parent r v) h (omega (arith, falls .down v a h)) refl s e
+  parent-has v s a h e = child-within n r (valid-rooted n r (std .valid)) v (parent r v) h (omega (arith, falls .down v a h)) refl s e
 
   leaf-last : (s w : ℕ) → s < n → n ≤ w → w < nodes r → has (groupAt n r w) s ≡ true → w ≤ parent r s
-  leaf-last s w z a h e = let t = falls .leaf s z in above-low w (parent r s) (meets-past r (nodes r) w s (λ q. omega arith) (group-has n r w s e .1)) (t .0) (t .1) a h
+  leaf-last s w z a h e = let t = falls .leaf s z in above-low w (parent r s) (meets-past r (nodes r) w s (λ q. omega arith) (group-has n r w s e .1)) (t .0) h
 
   leaf-has : (s : ℕ) → s < n → has (groupAt n r (parent r s)) s ≡ true
-  leaf-has s z = let t = falls .leaf s z in in-group n r (parent r s) s z (child-above n r (std .valid) s (parent r s) (omega (arith, std .valid .low)) (t .1) refl)
+  leaf-has s z = let t = falls .leaf s z in in-group n r (parent r s) s z (child-above n r (valid-rooted n r (std .valid)) s (parent r s) (omega (arith, std .valid .low)) (t .1) refl)
 
   module _ (up : List ℕ) where
     -- ---- climbing, step by step

@@ -18,7 +18,8 @@ use Rattle.trees.specs.BoolLaws.{not-yes}
 use Rattle.trees.specs.ListLaws.{length-tabulate, weigh-mono, weigh-append, count-all}
 use Rattle.trees.specs.GroupLaws.{aside, size-one, single-own, single-has, single-small, lowest-single}
 use Rattle.trees.specs.OrderLaws.{before-larger, before-falling}
-use Rattle.trees.specs.MemberLaws.{mem-in, member-append, member-filter, in-table, strict-ordered, strict-filter, strict-append, strict-table, strict-unique, ordered-same}
+use Rattle.trees.specs.MemberLaws.{mem-in, member-append, member-filter, in-table, strict-ordered}
+use Rattle.trees.specs.MemberLaws.{strict-filter, strict-append, strict-table, strict-unique, ordered-same}
 use Rattle.trees.specs.RowLaws.{length-inner, in-inner, inner-two, groups-split}
 use Rattle.trees.specs.NumberingLaws.{member-set, renumbered-groups, row-tree}
 

@@ -1,8 +1,9 @@
 -- The plain count: it starts with the whole, each run that is tried is merged in, and after enough of them all that is shown is accepted. Assumes nothing.
-use Prim.Native.Nat.{ℕ, zero, suc, _+_, _≤_, _<_}
+use Prim.Native.Nat.{ℕ, zero, suc, _≤_, _<_}
 use mathlib.Core.Path.{_≡_, refl, sym, ap, _∙_}
 use mathlib.Core.Logic.{⊎-elim}
-use mathlib.Core.List.{List, [], _∷_, _++_, List·Memᴰ, List·Memᴰ·head, List·Memᴰ·tail, List·Memᴰ·not-nil, List·Memᴰ·append-cases, Memᴰ·append-left, Memᴰ·append-right}
+use mathlib.Core.List.{List, [], _∷_, _++_, List·Memᴰ, List·Memᴰ·head}
+use mathlib.Core.List.{List·Memᴰ·tail, List·Memᴰ·not-nil, List·Memᴰ·append-cases, Memᴰ·append-left, Memᴰ·append-right}
 use mathlib.Core.Bool.{Bool, true, false, _&&_, _||_, or-false, or-assoc, and-or-distrib-left}
 use native.Mathlib.Nat.{le-of-suc-le-suc}
 use native.Mathlib.Omega.{arith}
@@ -20,7 +21,8 @@ use Rattle.trees.specs.Reporting.{Run, Rule, majority, held, shown, refe
 use Rattle.trees.specs.Counting.{soFar}
 use Rattle.trees.specs.BoolLaws.{and-l, and-r, and-both, or-cases, or-l, or-r, true-eq, not-yes}
 use Rattle.trees.specs.GroupLaws.{size-whole, single-small}
-use Rattle.trees.specs.MemberLaws.{in-none, in-head, in-tail, in-cases, member-ordered, member-append, member-filter, strict-ordered, strict-filter, strict-unique, in-table}
+use Rattle.trees.specs.MemberLaws.{in-none, in-head, in-tail, in-cases, member-ordered, member-append}
+use Rattle.trees.specs.MemberLaws.{member-filter, strict-ordered, strict-filter, strict-unique, in-table}
 use Rattle.trees.specs.RowLaws.{in-inner, inner-in, inner-two, groups-split}
 use Rattle.trees.specs.FamilyLaws.{Family}
 use Rattle.trees.specs.PlantingLaws.{planted}

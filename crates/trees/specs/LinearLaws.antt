@@ -1,7 +1,7 @@
 -- One linear look at a row tells whether it is standard: strict order of ranks and two samples in the last node imply two children each. Assumes nothing.
 use Prim.Native.Nat.{ℕ, zero, suc, _+_, _-_, _≤_, _<_, zero-le}
 use mathlib.Core.Path.{_≡_, refl, sym, ap, _∙_}
-use mathlib.Core.Logic.{inl, inr, ⊎-elim}
+use mathlib.Core.Logic.{⊎-elim}
 use mathlib.Core.List.{List}
 use mathlib.Core.Bool.{Bool, true, false, _&&_, _||_, not, true≢false}
 use native.Mathlib.Nat.{eq-or-lt-of-le}
@@ -9,24 +9,26 @@ use native.Mathlib.Omega.{arith}
 use lib.Dec.{eqb, ltb, leb}
 use lib.ListN.{length}
 use borrow.Author.Tests.{ltb-true, leb-true, leb-false, eqb-true, lt-ltb, le-ltb, le-leb, lt-leb, eq-eqb, ne-eqb, not-false}
-use Rattle.trees.specs.Lists.{tabulate, range, weigh, count}
+use Rattle.trees.specs.Lists.{tabulate, range}
 use Rattle.trees.specs.Groups.{Group, has, size, lowest, before}
-use Rattle.trees.specs.Rows.{nodes, parent, rootMark, childOf, groupAt, inner}
+use Rattle.trees.specs.Rows.{nodes, parent, childOf, groupAt, inner}
 use Rattle.trees.specs.Checks.{mostSamples, rowWords, children}
 use Rattle.trees.specs.Valid.{Valid, Standard, inOrder, standard}
+use Rattle.trees.specs.Rooted.{Rooted}
 use Rattle.trees.specs.Falls.{Falls, falling}
 use Rattle.trees.specs.Tables.{entry, leastOf, own, Most, sizeAt, leastAt, rankOf, rankIn, rankAt}
 use Rattle.trees.specs.Passes.{Ranked}
 use Rattle.trees.specs.Linear.{spans, littered, fillerZero, falters, rising, ranked, linear}
 use Rattle.trees.specs.BoolLaws.{and-l, and-r, and-both, true-eq}
-use Rattle.trees.specs.ListLaws.{range-cons, in-range, range-in, weigh-none, count-two}
-use Rattle.trees.specs.GroupLaws.{lowest-has, extra, within-size, within-eq, single-small}
+use Rattle.trees.specs.ListLaws.{range-in, count-two}
+use Rattle.trees.specs.GroupLaws.{Within, lowest-has, extra, within-size, within-eq, single-small}
 use Rattle.trees.specs.OrderLaws.{before-falling}
 use Rattle.trees.specs.MemberLaws.{in-order-strict}
-use Rattle.trees.specs.RowLaws.{length-group, group-has, in-group, group-agree, group-full, inner-two}
+use Rattle.trees.specs.RowLaws.{length-group, group-has, in-group, no-mark, step-down, child-within, leaf-group, group-agree, group-full, inner-two}
+use Rattle.trees.specs.TurnLaws.{not-root, falls-rooted, falls-valid}
 use Rattle.trees.specs.StandardLaws.{standard-to, standard-from, node-before, standard-distinct}
 use Rattle.trees.specs.NeverLaws.{Tri, less, equal, more, tri, never-to, never-from, never-same}
-use Rattle.trees.specs.FallsLaws.{falls-to, falls-from, standard-falls, no-mark, not-root, ends-all, parent-above, step-down, above-within, leaf-group}
+use Rattle.trees.specs.FallsLaws.{falls-to, falls-from, standard-falls}
 use Rattle.trees.specs.TableLaws.{size-length, least-le, least-lowest}
 
 -- ---- any row
@@ -116,29 +118,28 @@ module _ (n : ℕ) (r : List ℕ) (ok : Falls n r) (rise : rising (rankAt n r) n
   child-less : (c v : ℕ) → n ≤ v → c < nodes r → v < nodes r → parent r c ≡ v → sizeAt n r c < sizeAt n r v
   child-less c v a h k e = go (tri c n)
     where
-      not-top : c ≡ n → ⊥
-      not-top = not-root n r ok c (rw e (no-mark n r ok v k))
+      up : Rooted n r
+      up = falls-rooted n r ok
 
-      inside : sizeAt n r c ≤ sizeAt n r v
-      inside = within-size (groupAt n r c) (groupAt n r v) (above-within n r ok c v (rw e at (parent-above n r ok c h not-top)))
+      inside : Within (groupAt n r c) (groupAt n r v)
+      inside = child-within n r up c v h k e
 
       differ : n < c → sizeAt n r c ≡ sizeAt n r v → ⊥
       differ l q =
           let p = ok .down c l h in
-          let same : groupAt n r c ≡ groupAt n r v = within-eq (groupAt n r c) (groupAt n r v) (length-group n r c ∙ sym (length-group n r v))
-          (above-within n r ok c v (rw e at (parent-above n r ok c h not-top))) (omega arith) in
+          let same : groupAt n r c ≡ groupAt n r v = within-eq _ _ (length-group n r c ∙ sym (length-group n r v)) inside (omega arith) in
           omega (arith, rank-less v c a (omega arith) h, ap (λ (g : Group). rankOf n (size g) (leastOf own g)) same)
 
       go : Tri c n → sizeAt n r c < sizeAt n r v
-      go (less l) = omega (arith, ap size (leaf-group n r ok c l), single-small n c, all-big v a k)
-      go (equal l) = absurd (not-top l)
-      go (more l) = ⊎-elim (λ q. absurd (differ l q)) (λ q. q) (eq-or-lt-of-le inside)
+      go (less l) = omega (arith, ap size (leaf-group n r up c l), single-small n c, all-big v a k)
+      go (equal l) = absurd (not-root n r ok c (rw e (no-mark n r up v k)) l)
+      go (more l) = ⊎-elim (λ q. absurd (differ l q)) (λ q. q) (eq-or-lt-of-le (within-size (groupAt n r c) (groupAt n r v) inside))
 
   -- the child of v on the way to its sample s
   towards : (v s : ℕ) → n ≤ v → has (groupAt n r v) s ≡ true → (c : ℕ) × (c < nodes r) × (parent r c ≡ v) × (has (groupAt n r c) s ≡ true)
   towards v s a e =
       let m = group-has n r v s e in
-      let t = step-down n r ok v s (m .1) (omega (arith, m .0, ok .low)) (λ x. omega (arith, m .0)) in
+      let t = step-down n r (falls-rooted n r ok) v s (m .1) (omega (arith, m .0, ok .low)) (λ x. omega (arith, m .0)) in
       (t .0, t .1, t .2, in-group n r (t .0) s (m .0) (t .3))
 
   two-children : (v : ℕ) → n ≤ v → v < nodes r → 2 ≤ children r v
@@ -149,29 +150,8 @@ module _ (n : ℕ) (r : List ℕ) (ok : Falls n r) (rise : rising (rankAt n r) n
       count-two (childOf r v) (range 0 (nodes r)) (c .0) (d .0) (range-in 0 (nodes r) (c .0) zero-le (c .1)) (range-in 0 (nodes r) (d .0) zero-le (d .1))
       (λ q. true≢false (sym (d .3) ∙ ap (λ (w : ℕ). has (groupAt n r w) (t .0)) (sym q) ∙ t .2)) (eq-eqb _ _ (c .2)) (eq-eqb _ _ (d .2))
 
-  one-root : count (childOf r rootMark) (range n (nodes r)) ≡ 1
-  unfolding weigh
-  one-root = rw (range-cons n (nodes r) (ok .low), ok .root)
-      (omega (
-        arith,
-        weigh-none (λ u. 1) (childOf r rootMark) (range (suc n) (nodes r))
-            (λ v m. let h = in-range (suc n) (nodes r) v m in ne-eqb (parent r v) rootMark (λ q. omega (arith, ok .down v (h .0) (h .1), ok .high, ok .most))),
-      ))
-
   rising-valid : fillerZero n r ≡ true → Valid n r
-  rising-valid z = record {
-    least = omega (arith, ok .low, ok .high);
-    most = ok .most;
-    words = ok .words;
-    low = ok .low;
-    high = ok .high;
-    leaf = ok .leaf;
-    up = λ v a h. ⊎-elim (λ e. inl (rw (← e) (ok .root))) (λ e. let p = ok .down v e h in inr (p .0, omega arith)) (eq-or-lt-of-le a);
-    one = one-root;
-    filler = λ w a b. eqb-true _ _ (not-false _ (never-to (littered r) (nodes r + 1) (rowWords n) z w (omega arith) b));
-    reach = ends-all n r ok;
-    two = two-children;
-  }
+  rising-valid z = falls-valid n r ok (λ w a b. eqb-true _ _ (not-false _ (never-to (littered r) (nodes r + 1) (rowWords n) z w (omega arith) b))) two-children
 
   rising-standard : fillerZero n r ≡ true → Standard n r
   unfolding inner

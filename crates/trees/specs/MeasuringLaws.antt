@@ -20,8 +20,8 @@ use Rattle.trees.specs.Renaming.{nodeRank}
 use Rattle.trees.specs.Measuring.{onWay, groupFrom, TablesFrom}
 use Rattle.trees.specs.BoolLaws.{and-l, and-r, true-eq, not-yes, decide}
 use Rattle.trees.specs.ListLaws.{length-tabulate, range-in, weigh-one, weigh-apart}
-use Rattle.trees.specs.WayLaws.{here, up, met-to, met-from, meets-refl, meets-more, meets-less, no-loop}
-use Rattle.trees.specs.RowLaws.{length-group, no-mark, parent-range}
+use Rattle.trees.specs.WayLaws.{here, up, met-to, meets-refl, meets-more, no-loop}
+use Rattle.trees.specs.RowLaws.{length-group, no-mark, above-child, parent-range, valid-rooted}
 use Rattle.trees.specs.TableLaws.{size-length}
 
 no-larger : {n : ℕ} (g : Group) → length g ≡ n → size g ≤ n
@@ -30,8 +30,11 @@ no-larger g l = omega (arith, size-length g)
 -- ---- the way up, one step shorter
 
 module _ (n : ℕ) (r : List ℕ) (ok : Valid n r) (x : ℕ) (h : x < nodes r) where
+  not-mark : eqb x rootMark ≡ false
+  not-mark = no-mark n r (valid-rooted n r ok) x h
+
   way-here : onWay r x x ≡ true
-  way-here = rw (no-mark n r ok x h, meets-refl r (nodes r) x)
+  way-here = rw (not-mark, meets-refl r (nodes r) x)
 
   way-past : onWay r x (parent r x) ≡ false
   way-past = not-yes _ (λ e. let p = not-true (childOf r rootMark x) (and-l (not (childOf r rootMark x)) (meets (nodes r) r x (parent r x)) e) in
@@ -39,12 +42,11 @@ module _ (n : ℕ) (r : List ℕ) (ok : Valid n r) (x : ℕ) (h : x < nodes r) w
       (ok .reach (parent r x) (parent-range n r ok x h p .1)))
 
   way-other : (v : ℕ) → (v ≡ x → ⊥) → onWay r v (parent r x) ≡ onWay r v x
-  way-other v d = rw (no-mark n r ok x h) (true-eq _ _ longer shorter)
+  way-other v d = rw not-mark (true-eq _ _ longer shorter)
     where
       longer : onWay r v (parent r x) ≡ true → meets (nodes r) r v x ≡ true
-      longer e = meets-less r (nodes r) (suc (nodes r)) v x (ok .reach x h)
-          (met-from r (nodes r) v x (up (not-true _ (and-l (not (childOf r rootMark x)) (meets (nodes r) r v (parent r x)) e))
-          (and-r (not (childOf r rootMark x)) _ e)))
+      longer e = above-child n r (valid-rooted n r ok) v x h (not-true _ (and-l (not (childOf r rootMark x)) (meets (nodes r) r v (parent r x)) e))
+          (and-r (not (childOf r rootMark x)) _ e)
 
       shorter : meets (nodes r) r v x ≡ true → onWay r v (parent r x) ≡ true
       shorter m = elim (met-to r (nodes r) v x (meets-more r (nodes r) (suc (nodes r)) v x (omega arith) m))
@@ -89,7 +91,7 @@ module _ (n : ℕ) (r : List ℕ) (ok : Valid n r) (f : ℕ → ℕ) (s x : ℕ)
   climb-here h = rw (way-here n r ok x h) at (so-far .with-rest x h)
 
   climb-end : x ≡ rootMark → s < nodes r → (v : ℕ) → v < nodes r → getD t v 0 ≡ cond (meets (nodes r) r v s) (f (getD t₀ v 0)) (getD t₀ v 0)
-  climb-end e h v k = rw (e, no-mark n r ok s h) at (so-far .with-rest v k)
+  climb-end e h v k = rw (e, not-mark n r ok s h) at (so-far .with-rest v k)
 
 -- ---- the tables of sizes and smallest samples
 

@@ -12,15 +12,14 @@ use Rattle.trees.specs.Rows.{nodes, parent, rootMark, childOf, groupAt, 
 use Rattle.trees.specs.Valid.{Valid, In}
 use Rattle.trees.specs.BoolLaws.{true-eq, decide}
 use Rattle.trees.specs.GroupLaws.{Within, within-size, within-eq, single-small}
-use Rattle.trees.specs.WayLaws.{Met, here, up, met-to, meets-refl, meets-more, below, meets-line, no-loop}
-use Rattle.trees.specs.RowLaws.{Above, length-group, group-has, in-group, in-groups, groups-in, in-inner, inner-in, no-mark, parent-range, above-trans, above-within, child-within, leaf-below, leaf-beside, leaf-group, inner-two}
+use Rattle.trees.specs.WayLaws.{Met, here, up, met-to, meets-refl, meets-more, meets-line}
+use Rattle.trees.specs.RowLaws.{Above, length-group, group-has, in-group, in-groups, groups-in, in-inner, inner-in}
+use Rattle.trees.specs.RowLaws.{own-parent, above-trans, step-down, child-inner, above-within, child-within}
+use Rattle.trees.specs.RowLaws.{leaf-group, parent-range, valid-rooted, leaf-below, leaf-beside, inner-two}
 
 -- ---- one row
 
 module _ (n : ℕ) (r : List ℕ) (ok : Valid n r) where
-  pub own-parent : (v : ℕ) → v < nodes r → parent r v ≡ v → ⊥
-  own-parent v h e = no-loop r (suc (nodes r)) (nodes r) 0 v v (omega arith) (meets-refl r 0 v) e (no-mark n r ok v h) (ok .reach v h)
-
   -- the word of a node is a number of 16 bits
   pub parent-most : (v : ℕ) → v < nodes r → parent r v ≤ rootMark
   parent-most v h = ⊎-elim (λ e. omega (arith, eqb-true (parent r v) rootMark e)) (λ e. omega (arith, parent-range n r ok v h e .1, ok .high, ok .most))
@@ -29,10 +28,11 @@ module _ (n : ℕ) (r : List ℕ) (ok : Valid n r) where
   -- a node above another has a sample more
   above-distinct : (v w : ℕ) → v < nodes r → w < nodes r → (v ≡ w → ⊥) → Above r w v → groupAt n r v ≡ groupAt n r w → ⊥
   above-distinct v w h k x m e =
-      let t = below r (nodes r) (λ u l p. parent-range n r ok u l p .1) (nodes r) w v m h x in
-      let a : n ≤ w = rw (t .2) at (parent-range n r ok (t .0) (t .1) (rw (t .2) (no-mark n r ok w k)) .0) in
+      let up = valid-rooted n r ok in
+      let t = step-down n r up w v m h x in
+      let a : n ≤ w = child-inner n r up (t .0) w (t .1) k (t .2) in
       let b = leaf-beside n r ok w (t .0) a k (t .1) (t .2) in
-      b .3 (above-trans n r ok (t .0) v (b .0) (omega (arith, ok .low)) (group-has n r v (b .0) (rw e (in-group n r w (b .0) (b .1) (b .2))) .1) (t .3))
+      b .3 (above-trans n r up (t .0) v (b .0) (omega (arith, ok .low)) (group-has n r v (b .0) (rw e (in-group n r w (b .0) (b .1) (b .2))) .1) (t .3))
 
   -- two nodes that share a sample stand in line
   in-line : (v w : ℕ) → v < nodes r → Within (groupAt n r v) (groupAt n r w) → Above r w v ⊎ Above r v w
@@ -51,7 +51,7 @@ module _ (n : ℕ) (r : List ℕ) (ok : Valid n r) where
       back : Above r v w → Above r w v
       back m =
           let l = length-group n r v ∙ sym (length-group n r w) in
-          let e : groupAt n r v ≡ groupAt n r w = within-eq _ _ l f (within-size _ _ (above-within n r ok w v m)) in
+          let e : groupAt n r v ≡ groupAt n r w = within-eq _ _ l f (within-size _ _ (above-within n r (valid-rooted n r ok) w v m)) in
           subst (λ (u : ℕ). Above r u v) (node-distinct v w h k e) (meets-refl r (nodes r) v)
 
 -- ---- two rows with the same groups
@@ -68,7 +68,8 @@ module _ (n : ℕ) (r q : List ℕ) (ok : Valid n r) (fine : Valid n q) (same : 
     where
       high : (v w : ℕ) → n ≤ v → v < nodes r → groupAt n q w ≡ groupAt n r v → (ltb w n ≡ true) ⊎ (ltb w n ≡ false) → n ≤ w
       high v w a h e (inr l) = ltb-false w n l
-      high v w a h e (inl l) = absurd (omega (arith, inner-two n r ok v a h, ap size (sym (leaf-group n q fine w (ltb-true w n l)) ∙ e), single-small n w))
+      high v w a h e (inl l) = let one = sym (leaf-group n q (valid-rooted n q fine) w (ltb-true w n l)) ∙ e in
+          absurd (omega (arith, inner-two n r ok v a h, ap size one, single-small n w))
 
   -- the parents of two nodes with one group: the second's is within the first's
   parent-over : (v w : ℕ) → v < nodes r → w < nodes q → groupAt n r v ≡ groupAt n q w → childOf r rootMark v ≡ false
@@ -82,11 +83,12 @@ module _ (n : ℕ) (r q : List ℕ) (ok : Valid n r) (fine : Valid n q) (same : 
       t = twin (parent r v) (b .1)
 
       above : Above q (t .0) w
-      above = within-above n q fine w (t .0) k (t .1) (rw (← e, t .2) (child-within n r ok v (parent r v) h (b .1) refl))
+      above = within-above n q fine w (t .0) k (t .1) (rw (← e, t .2) (child-within n r (valid-rooted n r ok) v (parent r v) h (b .1) refl))
 
       go : Met q (nodes q) (t .0) w → (childOf q rootMark w ≡ false) × Within (groupAt n q (parent q w)) (groupAt n r (parent r v))
-      go (here x) = absurd (own-parent n r ok v h (node-distinct n r ok (parent r v) v (b .1) h (sym (t .2) ∙ ap (groupAt n q) (sym x) ∙ sym e)))
-      go (up x m) = (x, rw (t .2) at (above-within n q fine (parent q w) (t .0) m))
+      go (here x) = absurd (own-parent n r (valid-rooted n r ok) v h
+          (node-distinct n r ok (parent r v) v (b .1) h (sym (t .2) ∙ ap (groupAt n q) (sym x) ∙ sym e)))
+      go (up x m) = (x, rw (t .2) at (above-within n q (valid-rooted n q fine) (parent q w) (t .0) m))
 
 module _ (n : ℕ) (r q : List ℕ) (ok : Valid n r) (fine : Valid n q) (same : (x : Group) → member x (groups n r) ≡ member x (groups n q)) where
   pub inner-same : (x : Group) → member x (inner n r) ≡ member x (inner n q)

@@ -17,10 +17,12 @@ use Rattle.trees.specs.Valid.{Valid, In, Strict, Standard}
 use Rattle.trees.specs.Numbering.{ordered, groupSet, branching, rowOf, renumbered}
 use Rattle.trees.specs.BoolLaws.{and-l, and-r, and-both, or-cases, or-l, or-r, true-eq}
 use Rattle.trees.specs.GroupLaws.{Agree, size-whole, size-single, single-small, lowest-has, has-lt}
-use Rattle.trees.specs.MemberLaws.{member-ordered, member-append, member-filter, strict-ordered, strict-filter, strict-unique, ordered-same, in-table, table-in}
+use Rattle.trees.specs.MemberLaws.{member-ordered, member-append, member-filter, strict-ordered, strict-filter}
+use Rattle.trees.specs.MemberLaws.{strict-unique, ordered-same, in-table, table-in}
 use Rattle.trees.specs.FamilyLaws.{Family}
 use Rattle.trees.specs.PlantingLaws.{planted, planted-standard}
-use Rattle.trees.specs.RowLaws.{length-group, in-groups, groups-in, group-full, group-agree, leaf-group, whole-inner, in-inner, inner-two, groups-split}
+use Rattle.trees.specs.RowLaws.{length-group, in-groups, groups-in, leaf-group, valid-rooted, group-full}
+use Rattle.trees.specs.RowLaws.{group-agree, whole-inner, in-inner, inner-two, groups-split}
 use Rattle.trees.specs.StandardLaws.{standard-row}
 
 -- what the groups of a tree satisfy, in any order and number
@@ -36,7 +38,7 @@ row-tree n r ok = record {
   long = λ g m. let t = in-groups n r g m in rw (← (t .2)) (length-group n r (t .0));
   full = λ g m. let t = in-groups n r g m in rw (← (t .2)) (group-full n r ok (t .0) (t .1));
   agree = λ g h m k. let t = in-groups n r g m in let u = in-groups n r h k in rw (← (t .2), ← (u .2)) (group-agree n r ok (t .0) (u .0));
-  leaf = λ s h. rw (← leaf-group n r ok s h) (groups-in n r s (omega (arith, ok .low)));
+  leaf = λ s h. rw (← leaf-group n r (valid-rooted n r ok) s h) (groups-in n r s (omega (arith, ok .low)));
   top = let t = in-inner n r (whole n) (whole-inner n r ok) in rw (← (t .3)) (groups-in n r (t .0) (t .2));
 }
 

@@ -17,9 +17,9 @@ use Rattle.trees.specs.Passes.{node, stand, part, Stage, Stepped}
 use Rattle.trees.specs.BoolLaws.{true-eq}
 use Rattle.trees.specs.ListLaws.{length-tabulate, tabulate-same}
 use Rattle.trees.specs.WayLaws.{Met, here, up, met-to, meets-refl, meets-more}
-use Rattle.trees.specs.RowLaws.{Above}
+use Rattle.trees.specs.RowLaws.{Above, below-child}
 use Rattle.trees.specs.NeverLaws.{side, Tri, less, equal, more, tri}
-use Rattle.trees.specs.FallsLaws.{due-low, due-due, due-one, due-root, parent-in, above-due, above-trans, parent-above}
+use Rattle.trees.specs.TurnLaws.{due-low, due-due, due-one, due-root, parent-in, falls-rooted, above-due}
 use Rattle.trees.specs.TableLaws.{tabled-store, Folds, adds, size-over, size-length, Split, neither, left, right, over-join, over-none, over-one}
 
 module _ (n : ℕ) (r : List ℕ) (ok : Falls n r) where
@@ -53,7 +53,7 @@ module _ (n : ℕ) (r : List ℕ) (ok : Falls n r) where
   move d t h k a = let c = node-child d h in let p = node-parent d h in record {
     low = p .1;
     wait = p .2;
-    below = above-trans n r ok (parent r v) v t (omega (arith, ok .low)) (a .below) (parent-above n r ok v (c .0) (c .1));
+    below = below-child n r (falls-rooted n r ok) v (parent r v) t (c .0) (p .1) (omega (arith, ok .low)) refl (a .below);
     rest = λ w m. on w (a .rest w m);
   }
     where

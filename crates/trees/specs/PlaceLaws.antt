@@ -1,6 +1,6 @@
 -- Places of the samples: a sample is in a node's group exactly if its place lies in the node's interval (P). Assumes nothing.
 use Prim.Native.Nat.{ℕ, zero, suc, _+_, _-_, _≤_, _<_}
-use mathlib.Core.Path.{_≡_, sym, ap, _∙_, subst}
+use mathlib.Core.Path.{_≡_, refl, sym, ap, _∙_, subst}
 use mathlib.Core.Logic.{_⊎_, inl, inr, ⊎-elim}
 use mathlib.Core.List.{List}
 use mathlib.Core.Bool.{true, false, _&&_, true≢false}
@@ -10,19 +10,23 @@ use lib.Dec.{eqb, ltb, leb}
 use borrow.Author.Tests.{ltb-true, leb-true, eqb-true, eqb-false, lt-ltb, le-leb}
 use Rattle.trees.specs.Groups.{Group, has, size}
 use Rattle.trees.specs.Rows.{nodes, parent, meets, groupAt}
+use Rattle.trees.specs.Rooted.{Rooted}
 use Rattle.trees.specs.Falls.{Falls, due}
 use Rattle.trees.specs.Tables.{entry, Keys, sizeAt}
 use Rattle.trees.specs.Passes.{node, part, offsetAt, Starts}
 use Rattle.trees.specs.BoolLaws.{and-l, and-r, true-eq, decide}
 use Rattle.trees.specs.GroupLaws.{size-one}
 use Rattle.trees.specs.WayLaws.{Met, here, up, met-to, meets-refl, meets-zero}
-use Rattle.trees.specs.RowLaws.{Above, group-has, in-group}
+use Rattle.trees.specs.RowLaws.{Above, group-has, in-group, above-trans, child-above, step-down, no-leaf-above}
 use Rattle.trees.specs.NeverLaws.{Tri, less, equal, more, tri}
-use Rattle.trees.specs.FallsLaws.{due-low, due-due, due-one, parent-in, not-root, root-above, above-trans, parent-above, step-down, no-leaf-above}
+use Rattle.trees.specs.TurnLaws.{due-low, due-due, due-one, parent-in, not-root, falls-rooted, root-above}
 use Rattle.trees.specs.PassLaws.{node-child, node-parent, part-full, part-other, size-join}
 use Rattle.trees.specs.LinearLaws.{size-most}
 
 module _ (n : ℕ) (r : List ℕ) (ok : Falls n r) where
+  up-ends : Rooted n r
+  up-ends = falls-rooted n r ok
+
   -- ---- what a node has got grows to its group
 
   grows-one : (d p : ℕ) → suc d < nodes r → p < nodes r → size (part n r d p) ≤ size (part n r (suc d) p)
@@ -100,6 +104,9 @@ module _ (n : ℕ) (r : List ℕ) (ok : Falls n r) where
         p : (n ≤ parent r x) × (parent r x < nodes r) × (due n r x < due n r (parent r x))
         p = parent-in n r ok x h y
 
+        parent-up : Above r (parent r x) x
+        parent-up = child-above n r up-ends x (parent r x) h (p .1) refl
+
         under : (c : ℕ) → c < nodes r → parent r c ≡ parent r x → Above r c u → Beside x u
         under c i j m = pick (tri (due n r c) (due n r x)) (inside (nodes r) c u m k)
           where
@@ -115,9 +122,9 @@ module _ (n : ℕ) (r : List ℕ) (ok : Falls n r) where
             → (meets (nodes r) r u (parent r x) ≡ true) ⊎ (meets (nodes r) r u (parent r x) ≡ false)
             → (meets (nodes r) r (parent r x) u ≡ false → meets (nodes r) r u (parent r x) ≡ false → Beside (parent r x) u) → Beside x u
         go (inl i) j f =
-            let d = step-down n r ok (parent r x) u i k (λ q. true≢false (sym (subst (λ (v : ℕ). Above r v x) (sym q) (parent-above n r ok x h y)) ∙ b)) in
+            let d = step-down n r up-ends (parent r x) u i k (λ q. true≢false (sym (subst (λ (v : ℕ). Above r v x) (sym q) parent-up) ∙ b)) in
             under (d .0) (d .1) (d .2) (d .3)
-        go (inr i) (inl j) f = absurd (true≢false (sym (above-trans n r ok u (parent r x) x h (parent-above n r ok x h y) j) ∙ b))
+        go (inr i) (inl j) f = absurd (true≢false (sym (above-trans n r up-ends u (parent r x) x h parent-up j) ∙ b))
         go (inr i) (inr j) f = let c = child-in x h y in ⊎-elim (λ q. inl (omega arith)) (λ q. inr (omega arith)) (f i j)
 
     self-sized : (s : ℕ) → s < n → 1 ≤ sizeAt n r s
@@ -151,7 +158,7 @@ module _ (n : ℕ) (r : List ℕ) (ok : Falls n r) where
             go : (meets (nodes r) r u s ≡ true) ⊎ (meets (nodes r) r u s ≡ false) → (meets (nodes r) r s u ≡ true) ⊎ (meets (nodes r) r s u ≡ false)
                 → has (groupAt n r u) s ≡ true
             go (inl i) j = in-group n r u s k i
-            go (inr i) (inl j) = let q : u ≡ s = no-leaf-above n r ok s u k h j in absurd
+            go (inr i) (inl j) = let q : u ≡ s = no-leaf-above n r up-ends s u k h j in absurd
                 (true≢false (sym (subst (λ (v : ℕ). Above r u v) q (meets-refl r (nodes r) u)) ∙ i))
             go (inr i) (inr j) = absurd (⊎-elim (λ q. omega (arith, self-sized s k, low)) (λ q. omega (arith, high))
                 (beside (nodes r) s u (omega arith) l h j i))

@@ -1,26 +1,25 @@
 -- Planting: the row of a family has just its groups, and is a standard row. Assumes nothing.
 use Prim.Native.Nat.{ℕ, zero, suc, _+_, _-_, _≤_, _<_, zero-le}
 use mathlib.Core.Path.{_≡_, refl, sym, _∙_, subst}
-use mathlib.Core.Logic.{_⊎_, inl, inr, ⊎-elim}
 use mathlib.Core.List.{List, []}
 use mathlib.Core.Bool.{Bool, true, false, _&&_, _||_, not, cond}
-use native.Mathlib.Nat.{zero-add, add-zero, add-sub-of-le}
+use native.Mathlib.Nat.{zero-add, add-sub-of-le}
 use native.Mathlib.Omega.{arith}
 use lib.Dec.{eqb, ltb}
 use lib.ListN.{length, take}
 use lib.Seq.{take-length}
-use borrow.Author.Tests.{ltb-true, ltb-false, lt-ltb, le-ltb, eq-eqb, ne-eqb}
-use Rattle.trees.specs.Lists.{range, weigh, count}
+use borrow.Author.Tests.{lt-ltb, le-ltb, eq-eqb, ne-eqb}
 use Rattle.trees.specs.Groups.{Group, has, lowest}
-use Rattle.trees.specs.Rows.{parent, rootMark, childOf, meets, ends, groupAt, inner}
+use Rattle.trees.specs.Rows.{parent, rootMark, meets, groupAt, inner}
 use Rattle.trees.specs.Checks.{mostSamples}
 use Rattle.trees.specs.Valid.{Valid, Standard}
 use Rattle.trees.specs.Numbering.{lastWith, rowOf}
-use Rattle.trees.specs.BoolLaws.{or-r, decide}
-use Rattle.trees.specs.ListLaws.{tabulate-eq, range-cons, in-range, weigh-none}
+use Rattle.trees.specs.ListLaws.{tabulate-eq}
+use Rattle.trees.specs.Falls.{Falls}
 use Rattle.trees.specs.NeverLaws.{Tri, less, equal, more, tri}
 use Rattle.trees.specs.MemberLaws.{nth, in-at}
 use Rattle.trees.specs.RowOfLaws.{last-suc, nodes-row, length-row, filler-row, parent-leaf, parent-inner}
+use Rattle.trees.specs.TurnLaws.{falls-valid}
 use Rattle.trees.specs.FamilyLaws.{Family, Nested, Parents, two, nested, some, root, leaf-range, inner-range, two-children, fewer}
 
 -- ---- climbing in the row of nested groups
@@ -88,67 +87,28 @@ module _ (n : ℕ) (gs : List Group) (ok : Family n gs) (most : n ≤ mostSample
   is : Parents n gs rootMark (parent (rowOf n gs))
   is = record { leaf = parent-leaf n gs; inner = parent-inner n gs }
 
-  rooted : parent (rowOf n gs) n ≡ rootMark
-  rooted = root n gs ok rootMark _ is
-
-  leaves : (s : ℕ) → s < n → (n ≤ parent (rowOf n gs) s) × (parent (rowOf n gs) s < n + length gs)
-  leaves = leaf-range n gs ok rootMark _ is
-
-  inners : (i : ℕ) → 0 < i → i < length gs → (n ≤ parent (rowOf n gs) (n + i)) × (parent (rowOf n gs) (n + i) < n + i)
-  inners = inner-range n gs ok rootMark _ is
-
-  ends-inner : (f i : ℕ) → i < f → i < length gs → ends f (rowOf n gs) (n + i) ≡ true
-  unfolding ends
-  ends-inner zero i h k = absurd (omega arith)
-  ends-inner (suc f) zero h k = rw (add-zero, rooted)
-  ends-inner (suc f) (suc i) h k = let r = inners (suc i) (omega arith) k in or-r (childOf (rowOf n gs) rootMark (n + suc i)) _
-      (rw (add-sub-of-le (r .0)) at (ends-inner f (parent (rowOf n gs) (n + suc i) - n) (omega arith) (omega arith)))
-
-  ends-leaf : (f s : ℕ) → length gs < f → s < n → ends f (rowOf n gs) s ≡ true
-  unfolding ends
-  ends-leaf zero s h z = absurd (omega arith)
-  ends-leaf (suc f) s h z = let r = leaves s z in or-r (childOf (rowOf n gs) rootMark s) _
-      (rw (add-sub-of-le (r .0)) at (ends-inner f (parent (rowOf n gs) s - n) (omega arith) (omega arith)))
-
-  -- an inner node by its index; a node is a leaf or an inner node
+  -- an inner node by its index
   by-inner : (P : ℕ → Type 0) → ((i : ℕ) → i < length gs → P (n + i)) → (v : ℕ) → n ≤ v → v < n + length gs → P v
   by-inner P b v a h = subst P (add-sub-of-le a) (b (v - n) (omega arith))
 
-  by-node : (P : ℕ → Type 0) → ((s : ℕ) → s < n → P s) → ((i : ℕ) → i < length gs → P (n + i)) → (v : ℕ) → v < n + length gs → P v
-  by-node P a b v h = ⊎-elim (λ e. a v (ltb-true _ _ e)) (λ e. by-inner P b v (ltb-false v n e) h) (decide (ltb v n))
+  down : (v : ℕ) → n < v → v < n + length gs → (n ≤ parent (rowOf n gs) v) × (parent (rowOf n gs) v < v)
+  down v a h = by-inner (λ u. n < u → (n ≤ parent (rowOf n gs) u) × (parent (rowOf n gs) u < u))
+      (λ i k l. inner-range n gs ok rootMark _ is i (omega arith) k) v (omega arith) h a
 
-  up-at : (i : ℕ) → i < length gs → (parent (rowOf n gs) (n + i) ≡ rootMark) ⊎
-      ((n ≤ parent (rowOf n gs) (n + i)) × (parent (rowOf n gs) (n + i) < n + length gs))
-  up-at zero h = inl (rw add-zero rooted)
-  up-at (suc i) h = let r = inners (suc i) (omega arith) h in inr (r .0, omega arith)
-
-  one-root : count (childOf (rowOf n gs) rootMark) (range n (n + length gs)) ≡ 1
-  unfolding weigh
-  one-root = rw (range-cons n (n + length gs) (omega (arith, some n gs ok)), rooted)
-      (omega (
-        arith,
-        weigh-none (λ u. 1) (childOf (rowOf n gs) rootMark) (range (suc n) (n + length gs))
-            (λ v m. let h = in-range (suc n) (n + length gs) v m in by-inner (λ u. n < u → childOf (rowOf n gs) rootMark u ≡ false) other v
-            (omega arith) (omega arith) (omega arith)),
-      ))
-    where
-      other : (i : ℕ) → i < length gs → n < n + i → childOf (rowOf n gs) rootMark (n + i) ≡ false
-      other i h l = let r = inners i (omega arith) h in ne-eqb (parent (rowOf n gs) (n + i)) rootMark (λ q. omega (arith, room))
-
-  pub planted-valid : Valid n (rowOf n gs)
-  planted-valid = record {
-    least = two n gs ok;
+  planted-falls : Falls n (rowOf n gs)
+  planted-falls = record {
     most = most;
     words = length-row n gs ∙ omega (arith, fewer n gs ok);
     low = rw nodes-row (omega (arith, some n gs ok));
     high = rw nodes-row (omega (arith, fewer n gs ok));
-    leaf = λ s h. rw nodes-row (leaves s h);
-    up = rw nodes-row (by-inner _ up-at);
-    one = rw nodes-row one-root;
-    filler = rw nodes-row (λ w a b. filler-row n gs w a);
-    reach = rw nodes-row (by-node _ (λ s z. ends-leaf _ s (omega (arith, two n gs ok)) z) (λ i k. ends-inner _ i (omega (arith, two n gs ok)) k));
-    two = rw nodes-row (by-inner _ (two-children n gs ok rootMark _ is));
+    leaf = λ s h. rw nodes-row (leaf-range n gs ok rootMark _ is s h);
+    root = root n gs ok rootMark _ is;
+    down = rw nodes-row down;
   }
+
+  pub planted-valid : Valid n (rowOf n gs)
+  planted-valid = falls-valid n (rowOf n gs) planted-falls (rw nodes-row (λ w a b. filler-row n gs w a))
+      (rw nodes-row (by-inner _ (two-children n gs ok rootMark _ is)))
 
   pub planted-standard : Standard n (rowOf n gs)
   planted-standard = record { valid = planted-valid; strict = rw planted (ok .strict) }

@@ -18,7 +18,8 @@ use Rattle.trees.specs.Valid.{Valid, In, Strict, Standard}
 use Rattle.trees.specs.Numbering.{ordered, branching}
 use Rattle.trees.specs.Reporting.{Run, worth, support, total, Rule, majority, held, shown, agreed, supports, references}
 use Rattle.trees.specs.BoolLaws.{and-l, and-r, and-both, or-cases, or-l, or-r, true-eq}
-use Rattle.trees.specs.ListLaws.{length-tabulate, getD-tabulate, map-tabulate, length-zeros, getD-zeros, weigh-mono, weigh-found, weigh-both, count-all, count-early}
+use Rattle.trees.specs.ListLaws.{length-tabulate, getD-tabulate, map-tabulate, length-zeros, getD-zeros}
+use Rattle.trees.specs.ListLaws.{weigh-mono, weigh-found, weigh-both, count-all, count-early}
 use Rattle.trees.specs.GroupLaws.{Agree}
 use Rattle.trees.specs.MemberLaws.{in-none, member-ordered, member-append, member-filter, strict-ordered, strict-filter}
 use Rattle.trees.specs.RowLaws.{groups-in}

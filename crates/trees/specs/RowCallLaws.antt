@@ -1,5 +1,5 @@
 -- Demand 1 for renumbering and comparing, and what an accepted renumbering leaves. Assumes nothing.
-use Prim.Native.Nat.{ℕ, _+_, _-_, _*_, _≤_, _<_}
+use Prim.Native.Nat.{ℕ, _+_, _-_, _≤_, _<_}
 use mathlib.Core.Path.{_≡_, refl, sym, ap, _∙_}
 use mathlib.Core.Logic.{_↔_}
 use mathlib.Core.List.{List, [], _∷_, map}
@@ -11,7 +11,8 @@ use borrow.Author.Tests.{eqb-true, eq-eqb, not-false}
 use Rattle.trees.specs.Lists.{Place, nowhere, at, range, count}
 use Rattle.trees.specs.Groups.{Group, member}
 use Rattle.trees.specs.Rows.{groups, nodes, rootMark, childOf}
-use Rattle.trees.specs.Checks.{Verdict, accepted, refused, counted, Check, line, lineAt, orElse, _⊳_, rowWords, fewestSamples, outside, check5, check6, check7, check8, check9, check10, rowChecks, judgeChecks}
+use Rattle.trees.specs.Checks.{Verdict, accepted, refused, counted, Check, line, lineAt, orElse, _⊳_, rowWords}
+use Rattle.trees.specs.Checks.{fewestSamples, outside, check6, check7, check8, check9, check10, rowChecks, judgeChecks}
 use Rattle.trees.specs.Valid.{Valid, Standard}
 use Rattle.trees.specs.Numbering.{renumbered}
 use Rattle.trees.specs.Comparing.{compared}

@@ -14,6 +14,7 @@ use Rattle.trees.specs.Groups.{Group, has, lowest, before}
 use Rattle.trees.specs.Rows.{nodes, parent, rootMark, childOf, groupAt, inner}
 use Rattle.trees.specs.Checks.{Verdict, accepted, refused, counted, judged}
 use Rattle.trees.specs.Valid.{Valid, Standard, isAccepted, inOrder, standard}
+use Rattle.trees.specs.Rooted.{Rooted}
 use Rattle.trees.specs.Numbering.{lastWith, rowOf}
 use Rattle.trees.specs.BoolLaws.{and-l, and-r, and-both, not-yes, decide}
 use Rattle.trees.specs.GroupLaws.{within-eq, lowest-has}
@@ -23,8 +24,10 @@ use Rattle.trees.specs.ValidLaws.{judged-valid, valid-judged}
 use Rattle.trees.specs.RowOfLaws.{nodes-row, parent-leaf, parent-inner, filler-row}
 use Rattle.trees.specs.FamilyLaws.{Family, last-is}
 use Rattle.trees.specs.PlantingLaws.{planted-valid}
-use Rattle.trees.specs.WayLaws.{meets-refl, meets-past, meets-line, no-loop}
-use Rattle.trees.specs.RowLaws.{Above, length-group, group-has, in-group, length-inner, at-inner, in-inner, no-mark, parent-range, above-trans, child-above, no-leaf-above, above-within, group-agree, to-root, one-root, inner-two, whole-inner}
+use Rattle.trees.specs.WayLaws.{meets-refl, meets-past, meets-line}
+use Rattle.trees.specs.RowLaws.{Above, length-group, group-has, in-group, length-inner, at-inner, in-inner}
+use Rattle.trees.specs.RowLaws.{no-mark, own-parent, child-above, below-child, no-leaf-above, top-of, above-within}
+use Rattle.trees.specs.RowLaws.{parent-range, valid-rooted, group-agree, one-root, inner-two, whole-inner}
 
 -- ---- the test is the record
 
@@ -51,6 +54,9 @@ module _ (n : ℕ) (r : List ℕ) (std : Standard n r) where
   ok : Valid n r
   ok = std .valid
 
+  up : Rooted n r
+  up = valid-rooted n r ok
+
   pub standard-family : Family n (inner n r)
   standard-family = record {
     strict = std .strict;
@@ -73,9 +79,9 @@ module _ (n : ℕ) (r : List ℕ) (std : Standard n r) where
   standard-distinct v w a h k e = before-irrefl (groupAt n r w) (rw e at (node-before v w a h k))
 
   -- a node is above none of a lower number
-  not-up : (v w : ℕ) → n ≤ v → v < w → w < nodes r → Above r w v → ⊥
+  pub not-up : (v w : ℕ) → n ≤ v → v < w → w < nodes r → Above r w v → ⊥
   not-up v w a h k m = standard-distinct v w a h k
-      (within-eq (groupAt n r v) (groupAt n r w) (length-group n r v ∙ sym (length-group n r w)) (above-within n r ok v w m)
+      (within-eq (groupAt n r v) (groupAt n r w) (length-group n r v ∙ sym (length-group n r w)) (above-within n r up v w m)
       (before-size (groupAt n r v) (groupAt n r w) (node-before v w a h k)))
 
   -- ---- the last of the groups below c that has s is the parent of u, where u has s and is not among those, nor above one of them
@@ -85,8 +91,7 @@ module _ (n : ℕ) (r : List ℕ) (std : Standard n r) where
   last-parent c u s a h z m e b d =
       last-is n rootMark (inner n r) c (parent r u - n) s (omega (arith, p)) a
       (rw (at-inner n r (parent r u - n) (omega (arith, p)), q)
-      (in-group n r (parent r u) s z (above-trans n r ok (parent r u) u s (omega (arith, ok .low)) m
-      (child-above n r ok u (parent r u) h (p .1) refl))))
+      (in-group n r (parent r u) s z (below-child n r up u (parent r u) s h (p .1) (omega (arith, ok .low)) refl m)))
       (λ l i k. not-yes _ (λ f. none l i k f))
       ∙ q
     where
@@ -106,8 +111,8 @@ module _ (n : ℕ) (r : List ℕ) (std : Standard n r) where
   leaf-same s h =
       let p = ok .leaf s h in
       rw take-length at (last-parent (length (inner n r)) s s (omega arith) (omega (arith, ok .low)) h (meets-refl r (nodes r) s)
-      (no-mark n r ok (parent r s) (p .1)) (omega (arith, length-inner n r))
-      (λ l k. (λ q. omega arith, λ m. omega (arith, no-leaf-above n r ok s (n + l) h (omega (arith, length-inner n r)) m))))
+      (no-mark n r up (parent r s) (p .1)) (omega (arith, length-inner n r))
+      (λ l k. (λ q. omega arith, λ m. omega (arith, no-leaf-above n r up s (n + l) h (omega (arith, length-inner n r)) m))))
 
   -- the parent of an inner node is the mark, of the first alone, or a smaller number
   pub parent-below : (v : ℕ) → n ≤ v → v < nodes r → ((v ≡ n) × (parent r v ≡ rootMark)) ⊎ ((childOf r rootMark v ≡ false) × (parent r v < v))
@@ -116,7 +121,7 @@ module _ (n : ℕ) (r : List ℕ) (std : Standard n r) where
       first : childOf r rootMark v ≡ true → (eqb v n ≡ true) ⊎ (eqb v n ≡ false) → v ≡ n
       first e (inl q) = eqb-true v n q
       first e (inr q) =
-          let t = to-root n r ok (nodes r) n (ok .reach n (ok .low)) (ok .low) in
+          let t = top-of n r up n (ok .low) in
           let x : t .0 ≡ v = one-root n r ok (t .0) v (t .1) a (t .2) h (t .3) (eqb-true (parent r v) rootMark e) in
           absurd (not-up n v (omega arith) (omega (arith, eqb-false v n q)) h (rw x at (t .4)))
 
@@ -128,9 +133,9 @@ module _ (n : ℕ) (r : List ℕ) (std : Standard n r) where
           p = parent-range n r ok v h e
 
           back : (eqb (parent r v) v ≡ true) ⊎ (eqb (parent r v) v ≡ false) → ⊥
-          back (inl x) = no-loop r (suc (nodes r)) (nodes r) 0 v v (omega arith) (meets-refl r 0 v) (eqb-true _ _ x) (no-mark n r ok v h) (ok .reach v h)
+          back (inl x) = own-parent n r up v h (eqb-true _ _ x)
           back (inr x) = not-up v (parent r v) a (omega (arith, ltb-false (parent r v) v q, eqb-false (parent r v) v x)) (p .1)
-              (child-above n r ok v (parent r v) h (p .1) refl)
+              (child-above n r up v (parent r v) h (p .1) refl)
 
       go : (childOf r rootMark v ≡ true) ⊎ (childOf r rootMark v ≡ false)
           → ((v ≡ n) × (parent r v ≡ rootMark)) ⊎ ((childOf r rootMark v ≡ false) × (parent r v < v))

@@ -11,7 +11,8 @@ use lib.Seq.{ext-getD}
 use borrow.Author.Tests.{eqb-true, ltb-true, ltb-false, eq-eqb, le-ltb, le-leb, not-true, not-false}
 use Rattle.trees.specs.Lists.{tabulate, weigh, at, range, count}
 use Rattle.trees.specs.Rows.{nodes, parent, rootMark, childOf, ends}
-use Rattle.trees.specs.Checks.{Verdict, accepted, refused, fewestSamples, mostSamples, rowWords, outside, isInner, stray, children, check6, check9, rowChecks, judgeChecks, judged, _⊳_}
+use Rattle.trees.specs.Checks.{Verdict, accepted, refused, fewestSamples, mostSamples, rowWords, outside, isInner}
+use Rattle.trees.specs.Checks.{stray, children, check6, check9, rowChecks, judgeChecks, judged, _⊳_}
 use Rattle.trees.specs.Valid.{Valid}
 use Rattle.trees.specs.BoolLaws.{and-both, or-r, not-yes, decide}
 use Rattle.trees.specs.ListLaws.{first-lowest, first-nowhere, nowhere-first, Lowest}

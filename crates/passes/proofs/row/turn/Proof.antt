@@ -1,5 +1,5 @@
 -- `passes::row::turn` meets its contract. Assumes nothing.
-use Rattle.trees.specs.FallsLaws.{turn-leaf, turn-inner}
+use Rattle.trees.specs.TurnLaws.{turn-leaf, turn-inner}
 use mathlib.Core.Path.{sym}
 use native.Mathlib.Omega.{arith}
 use borrow.Author.Needs.{needs}

@@ -5,7 +5,7 @@ use mathlib.Core.Bool.{false}
 use native.Mathlib.Omega.{arith}
 use lib.ListN.{length, length-set, length-replicate}
 use Rattle.trees.specs.Rows.{nodes}
-use Rattle.text.specs.BelowLaws.{above-later}
+use Rattle.trees.specs.BelowLaws.{above-later}
 use Rattle.text.specs.Marks.{Marked, markCount}
 use Rattle.text.specs.MarkLaws.{marked-start, marked-next}
 use borrow.Author.Needs.{needs}
