@@ -2,14 +2,14 @@
 use Prim.Native.Nat.{ℕ}
 use mathlib.Core.Path.{_≡_, refl, sym, ap, _∙_}
 use mathlib.Core.List.{List, [], _∷_, map}
-use mathlib.Core.Bool.{Bool, true}
+use mathlib.Core.Bool.{true}
 use lib.ListN.{length}
 use Rattle.trees.specs.Checks.{Verdict, accepted}
 use Rattle.trees.specs.Valid.{isAccepted}
 use Rattle.trees.specs.Reporting.{Run}
 use Rattle.runs.specs.Runs.{every}
 use Rattle.runs.specs.Calls.{opened}
-use Rattle.runs.specs.Histories.{Call, identified, called, after, answers, Anew, adds, Renewed}
+use Rattle.runs.specs.Histories.{Call, identified, called, after, answers, Anew, adds}
 use Rattle.runs.specs.FreshLaws.{demand-3}
 use Rattle.judge.specs.declared.Answer.{Answer}
 use Rattle.judge.specs.Verdicts.{verdict}

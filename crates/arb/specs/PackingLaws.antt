@@ -1,10 +1,8 @@
 -- Packing loses nothing of a verdict whose number, place and counts are within their bits. Assumes nothing.
-use Prim.Native.Nat.{ℕ, zero, suc, _+_, _*_, _/_, _%_, _<_, _≤_}
-use mathlib.Core.Path.{_≡_, refl, sym, ap, _∙_}
-use mathlib.Core.Bool.{cond, false, true}
+use Prim.Native.Nat.{ℕ, _/_, _%_, _<_}
+use mathlib.Core.Path.{_≡_, refl}
 use native.Mathlib.Omega.{arith}
-use lib.Dec.{eqb}
-use borrow.Author.Tests.{eq-eqb, ne-eqb}
+use borrow.Author.Tests.{ne-eqb}
 use Rattle.trees.specs.Checks.{Verdict, accepted, refused, counted}
 use Rattle.arb.specs.Packing.{numbers, places, counts, packed, unpacked, unpackedCounts}
 

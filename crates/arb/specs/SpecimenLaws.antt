@@ -1,6 +1,5 @@
 -- Each starred specimen of document 01 holds of the definitions. Assumes nothing.
-use Prim.Native.Nat.{ℕ}
-use mathlib.Core.Path.{_≡_, refl}
+use mathlib.Core.Path.{refl}
 use native.Mathlib.Omega.{arith}
 use Rattle.trees.specs.Lists.{tabulate, filter, first, weigh}
 use Rattle.trees.specs.Groups.{size, lowest, same, listFirst, before, member}

@@ -1,5 +1,5 @@
 -- The runs of a study: as many as its header says, each where it stands in the words, each standard. Assumes nothing.
-use Prim.Native.Nat.{ℕ, suc, _+_, _≤_, _<_}
+use Prim.Native.Nat.{ℕ, _+_, _≤_, _<_}
 use mathlib.Core.Path.{_≡_, sym, ap, subst, _∙_}
 use mathlib.Core.List.{List, List·Memᴰ}
 use native.Mathlib.Nat.{zero-add}
@@ -10,7 +10,8 @@ use Rattle.trees.specs.Valid.{Standard}
 use Rattle.trees.specs.Reporting.{Run}
 use Rattle.trees.specs.ListLaws.{getD-tabulate}
 use Rattle.runs.specs.Words.{samples, inForce, slotStart, slotWords, runAt, runs, mostRuns}
-use Rattle.runs.specs.WordLaws.{capacity-most, capacity-room, slot-next, length-runs, member-at}
+use Rattle.runs.specs.WordLaws.{length-runs, member-at}
+use Rattle.runs.specs.SlotLaws.{slot-within, formed-fits, formed-few}
 use Rattle.count.specs.Studies.{Study, rowAt}
 
 module _ (w : List ℕ) (n k : ℕ) (study : Study w n k) where
@@ -21,17 +22,13 @@ module _ (w : List ℕ) (n k : ℕ) (study : Study w n k) where
   study-most = rw (study .over) (study .formed .most)
 
   pub study-few : k ≤ mostRuns
-  study-few = omega (arith, study .force, study .formed .fits, capacity-most (length w) (samples w))
+  study-few = rw (study .force) (formed-few w (study .formed))
 
   pub study-length : length (runs w) ≡ k
   study-length = length-runs w ∙ sym (study .force)
 
   pub study-room : (j : ℕ) → j < k → slotStart n j + slotWords n ≤ length w
-  study-room j h = rw (study .over) (omega (
-    arith,
-    capacity-room (length w) (samples w) (suc j) (study .formed .one) (omega (arith, study .force, study .formed .fits)),
-    slot-next (samples w) j,
-  ))
+  study-room j h = rw (study .over) (slot-within (samples w) j (inForce w) (length w) (omega (arith, study .force)) (formed-fits w (study .formed)))
 
   pub study-run : (j : ℕ) (d : Run) → j < k → getD (runs w) j d ≡ runAt n w j
   unfolding runs

@@ -1,25 +1,17 @@
 -- What a report of a well-formed study answers and leaves: its checks left, refused, accepted. Assumes nothing.
-use Prim.Native.Nat.{ℕ, _≤_}
+use Prim.Native.Nat.{ℕ}
 use mathlib.Core.Path.{_≡_, _∙_}
 use mathlib.Core.List.{List}
 use mathlib.Core.Bool.{true}
-use native.Mathlib.Omega.{arith}
-use lib.ListN.{length}
 use Rattle.trees.specs.Checks.{accepted, _⊳_}
 use Rattle.trees.specs.ChainLaws.{chain-go}
 use Rattle.trees.specs.Reporting.{majority}
-use Rattle.runs.specs.Words.{samples, inForce, headerWords}
-use Rattle.runs.specs.WordLaws.{capacity-room}
-use Rattle.runs.specs.Formed.{wellFormed, Formed}
+use Rattle.runs.specs.Formed.{wellFormed}
 use Rattle.runs.specs.FormedLaws.{formed-from}
 use Rattle.runs.specs.Calls.{check2}
 use Rattle.runs.specs.Reports.{reportFormedChecks, reportChecks, reported}
 use Rattle.count.specs.Studies.{Study}
 use Rattle.report.specs.Supports.{givenChecks}
-
--- a well-formed study has a header
-pub formed-long : (w : List ℕ) → Formed w → headerWords ≤ length w
-formed-long w f = omega (arith, capacity-room (length w) (samples w) (inForce w) (f .one) (f .fits))
 
 -- the checks that are left where the study is known to be well formed
 pub report-formed : (w a s : List ℕ) → wellFormed w ≡ true → reportChecks w a s ⊳ accepted ≡ reportFormedChecks w a s ⊳ accepted

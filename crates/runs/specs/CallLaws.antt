@@ -3,13 +3,13 @@ use Prim.Native.Nat.{ℕ, _≤_}
 use mathlib.Core.Path.{_≡_, refl, _∙_}
 use mathlib.Core.Logic.{_↔_}
 use mathlib.Core.List.{List, [], _∷_, _++_, List·Memᴰ·not-nil}
-use mathlib.Core.Bool.{Bool, true, false, false≢true}
+use mathlib.Core.Bool.{Bool, true, false}
 use native.Mathlib.Omega.{arith}
 use lib.Dec.{ltb}
 use lib.ListN.{length}
 use borrow.Author.Tests.{ltb-false, le-ltb}
 use Rattle.trees.specs.Lists.{nowhere}
-use Rattle.trees.specs.Checks.{Verdict, accepted, refused, counted, Check, line, _⊳_, fewestSamples, mostSamples, outside, check1}
+use Rattle.trees.specs.Checks.{accepted, refused, Check, line, _⊳_, fewestSamples, mostSamples, outside, check1}
 use Rattle.trees.specs.Valid.{isAccepted}
 use Rattle.trees.specs.Reporting.{Run}
 use Rattle.trees.specs.ChainLaws.{Passed, passed-chain, chain-passed, isRising, numbers, Exactly, refused-exactly, line-passes}
@@ -33,11 +33,6 @@ passed-append (c ∷ cs) ds h k = (h .0, passed-append cs ds (h .1) k)
 pub passed-split : (cs ds : List Check) → Passed (cs ++ ds) → Passed cs × Passed ds
 passed-split [] ds h = (tt, h)
 passed-split (c ∷ cs) ds h = let t = passed-split cs ds (h .1) in ((h .0, t .0), t .1)
-
-pub accepted-to : (v : Verdict) → isAccepted v ≡ true → v ≡ accepted
-accepted-to accepted e = refl
-accepted-to (refused k p) e = absurd (false≢true e)
-accepted-to (counted a b c) e = absurd (false≢true e)
 
 -- ---- any call
 

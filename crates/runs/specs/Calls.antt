@@ -9,7 +9,7 @@ use Rattle.trees.specs.Numbering.{renumbered}
 use Rattle.trees.specs.Reporting.{Run}
 use Rattle.trees.specs.Outcomes.{Outcome, outcome}
 use Rattle.runs.specs.Runs.{present, insertRun, deleteRun}
-use Rattle.runs.specs.Words.{samples, inForce, runs, encode, capacity}
+use Rattle.runs.specs.Words.{samples, runs, encode, capacity, full}
 use Rattle.runs.specs.Formed.{wellFormed}
 
 -- "the study handed in is not well formed"
@@ -30,7 +30,7 @@ check11 w i = line 11 (present i (runs w))
 
 -- "add: k equals capacity"
 abbrev pub check12 : List ℕ → Check
-check12 w = line 12 (eqb (inForce w) (capacity (length w) (samples w)))
+check12 w = line 12 (full w)
 
 -- "withdraw: identifier not in force"
 abbrev pub check13 : List ℕ → ℕ → Check

@@ -12,13 +12,14 @@ use Rattle.trees.specs.Checks.{accepted}
 use Rattle.trees.specs.Valid.{Valid, isAccepted}
 use Rattle.trees.specs.Numbering.{renumbered}
 use Rattle.trees.specs.BoolLaws.{and-l, and-r, decide}
+use Rattle.trees.specs.ValidLaws.{accepted-to}
 use Rattle.trees.specs.NumberingLaws.{renumbered-groups}
 use Rattle.runs.specs.Runs.{every, find, isSome, present}
 use Rattle.runs.specs.Words.{runs, encode, mostIdentifier}
 use Rattle.runs.specs.Calls.{opened, added, withdrawn, stores}
 use Rattle.runs.specs.Histories.{Call, add, withdraw, names, identified, called, after, lastFrom, studyAfter, lastAccepted, isAdd, leaves, SameGroups}
 use Rattle.runs.specs.RunLaws.{find-named}
-use Rattle.runs.specs.CallLaws.{accepted-to, Kept, kept-on, opened-kept, opened-none}
+use Rattle.runs.specs.CallLaws.{Kept, kept-on, opened-kept, opened-none}
 use Rattle.runs.specs.AddLaws.{added-accepts, added-kept, added-find}
 use Rattle.runs.specs.WithdrawLaws.{withdrawn-accepts, withdrawn-kept, withdrawn-find}
 

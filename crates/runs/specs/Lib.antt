@@ -7,6 +7,7 @@ pub mod Moves
 pub mod RunLaws
 pub mod WordLaws
 pub mod FormedLaws
+pub mod SlotLaws
 pub mod CallLaws
 pub mod AddLaws
 pub mod WithdrawLaws

@@ -1,6 +1,8 @@
 -- The study's words: header, slots, zeros; what is read off them; capacity.
 use Prim.Native.Nat.{ℕ, _+_, _-_, _*_, _/_, min}
 use mathlib.Core.List.{List, [], _∷_, _++_}
+use mathlib.Core.Bool.{Bool}
+use lib.Dec.{eqb}
 use lib.ListN.{length, getD, take, drop}
 use Rattle.trees.specs.Lists.{tabulate, zeros}
 use Rattle.trees.specs.Checks.{rowWords}
@@ -82,3 +84,7 @@ mostIdentifier = 65535
 -- (`capacity-short`)
 unfoldable pub capacity : ℕ → ℕ → ℕ
 capacity len n = min mostRuns ((len - headerWords) / slotWords n)
+
+-- "k equals capacity"
+abbrev pub full : List ℕ → Bool
+full w = eqb (inForce w) (capacity (length w) (samples w))

@@ -1,11 +1,8 @@
--- What a move of words up leaves, what the search for a slot answers, and when a study is full.
+-- What a move of words up leaves, and what the search for a slot answers.
 use Prim.Native.Nat.{ℕ, _+_}
 use mathlib.Core.List.{List, _++_}
-use mathlib.Core.Bool.{Bool}
-use lib.Dec.{eqb}
-use lib.ListN.{length, take, drop}
+use lib.ListN.{take, drop}
 use lib.Seq.{slice}
-use Rattle.runs.specs.Words.{samples, inForce, capacity}
 use Rattle.runs.specs.Moves.{StandsAt, GoesBefore}
 use Rattle.slots.specs.declared.search.Spot.{Spot}
 use Rattle.slots.specs.declared.search.Spot.the-variants.{At, Before}
@@ -18,7 +15,3 @@ raised w f t d = take (f + d) w ++ (slice f t w ++ drop (t + d) w)
 abbrev pub Spotted : List ℕ → ℕ → Spot → Type 0
 Spotted w d (At i) = StandsAt w d i
 Spotted w d (Before i) = GoesBefore w d i
-
--- "k equals capacity"
-abbrev pub full : List ℕ → Bool
-full w = eqb (inForce w) (capacity (length w) (samples w))

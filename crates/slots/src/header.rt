@@ -10,7 +10,7 @@ ghost use lib.ListN.{length, take, drop};
 ghost use Rattle.trees.specs.Checks.{mostSamples};
 ghost use Rattle.runs.specs.Words.{header, samples, inForce, headerWords, encode, capacity};
 ghost use Rattle.runs.specs.Formed.{sameWords, Formed};
-ghost use Rattle.slots.specs.Slots.{full};
+ghost use Rattle.runs.specs.Words.{full};
 
 // "Word 4 is n, word 5 is k"
 pub struct Header {

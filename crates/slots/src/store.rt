@@ -21,7 +21,7 @@ ghost use Rattle.runs.specs.Words.{samples, inForce, slotWords, slot};
 ghost use Rattle.runs.specs.Formed.{Formed};
 ghost use Rattle.runs.specs.Calls.{stores};
 ghost use Rattle.runs.specs.Moves.{putAt, closeAt, slotPut, slotClosed};
-ghost use Rattle.slots.specs.Slots.{full};
+ghost use Rattle.runs.specs.Words.{full};
 
 // A row as it is stored: in standard numbering.
 fn stored_row(n: usize, row: &[u16], out: &mut [u16])

@@ -29,7 +29,7 @@ use Rattle.judge.specs.Verdicts.{verdict}
 use Rattle.runs.specs.Moves.{StandsAt, GoesBefore}
 use Rattle.runs.specs.MoveLaws.{stands-found, goes-absent}
 use Rattle.study.specs.Adding.{givenChecks, addedValid}
-use Rattle.slots.specs.Slots.{full}
+use Rattle.runs.specs.Words.{full}
 
 -- ---- an answer and the checks behind it
 

@@ -3,7 +3,7 @@ use Prim.Native.Nat.{ℕ, zero, suc, _+_, _-_, _≤_, _<_}
 use mathlib.Core.Path.{_≡_, refl, sym, ap, _∙_, subst}
 use mathlib.Core.Logic.{_⊎_, inl, inr, ⊎-elim}
 use mathlib.Core.List.{List}
-use mathlib.Core.Bool.{true, false, false≢true}
+use mathlib.Core.Bool.{true, false}
 use native.Mathlib.Nat.{add-sub-of-le}
 use native.Mathlib.Omega.{arith}
 use lib.Dec.{ltb, eqb}
@@ -12,7 +12,7 @@ use lib.Seq.{take-length, ext-getD}
 use borrow.Author.Tests.{eqb-true, eqb-false, ltb-true, ltb-false}
 use Rattle.trees.specs.Groups.{Group, has, lowest, before}
 use Rattle.trees.specs.Rows.{nodes, parent, rootMark, childOf, groupAt, inner}
-use Rattle.trees.specs.Checks.{Verdict, accepted, refused, counted, judged}
+use Rattle.trees.specs.Checks.{judged}
 use Rattle.trees.specs.Valid.{Valid, Standard, isAccepted, inOrder, standard}
 use Rattle.trees.specs.Rooted.{Rooted}
 use Rattle.trees.specs.Numbering.{lastWith, rowOf}
@@ -20,7 +20,7 @@ use Rattle.trees.specs.BoolLaws.{and-l, and-r, and-both, not-yes, decide
 use Rattle.trees.specs.GroupLaws.{within-eq, lowest-has}
 use Rattle.trees.specs.OrderLaws.{before-irrefl, before-size}
 use Rattle.trees.specs.MemberLaws.{nth, strict-at, in-order-strict, strict-in-order}
-use Rattle.trees.specs.ValidLaws.{judged-valid, valid-judged}
+use Rattle.trees.specs.ValidLaws.{accepted-to, judged-valid, valid-judged}
 use Rattle.trees.specs.RowOfLaws.{nodes-row, parent-leaf, parent-inner, filler-row}
 use Rattle.trees.specs.FamilyLaws.{Family, last-is}
 use Rattle.trees.specs.PlantingLaws.{planted-valid}
@@ -34,16 +34,9 @@ use Rattle.trees.specs.RowLaws.{parent-range, valid-rooted, group-agree,
 pub standard-to : (n : ℕ) (r : List ℕ) → standard n r ≡ true → Standard n r
 unfolding standard
 standard-to n r e = record {
-  valid = judged-valid n r
-      (go (judged n r) (and-l (isAccepted (judged n r)) (inOrder (inner n r)) e));
-  strict = in-order-strict (inner n r)
-      (and-r (isAccepted (judged n r)) _ e);
+  valid = judged-valid n r (accepted-to (judged n r) (and-l (isAccepted (judged n r)) (inOrder (inner n r)) e));
+  strict = in-order-strict (inner n r) (and-r (isAccepted (judged n r)) _ e);
 }
-  where
-    go : (v : Verdict) → isAccepted v ≡ true → v ≡ accepted
-    go accepted q = refl
-    go (refused k p) q = absurd (false≢true q)
-    go (counted a b c) q = absurd (false≢true q)
 
 pub standard-from : (n : ℕ) (r : List ℕ) → Standard n r → standard n r ≡ true
 unfolding standard

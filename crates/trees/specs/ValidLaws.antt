@@ -11,14 +11,19 @@ use lib.Seq.{ext-getD}
 use borrow.Author.Tests.{eqb-true, ltb-true, ltb-false, eq-eqb, le-ltb, le-leb, not-true, not-false}
 use Rattle.trees.specs.Lists.{tabulate, weigh, at, range, count}
 use Rattle.trees.specs.Rows.{nodes, parent, rootMark, childOf, ends}
-use Rattle.trees.specs.Checks.{Verdict, accepted, refused, fewestSamples, mostSamples, rowWords, outside, isInner}
+use Rattle.trees.specs.Checks.{Verdict, accepted, refused, counted, fewestSamples, mostSamples, rowWords, outside, isInner}
 use Rattle.trees.specs.Checks.{stray, children, check6, check9, rowChecks, judgeChecks, judged, _⊳_}
-use Rattle.trees.specs.Valid.{Valid}
+use Rattle.trees.specs.Valid.{Valid, isAccepted}
 use Rattle.trees.specs.BoolLaws.{and-both, or-r, not-yes, decide}
 use Rattle.trees.specs.ListLaws.{first-lowest, first-nowhere, nowhere-first, Lowest}
 use Rattle.trees.specs.ChainLaws.{Passed, passed-chain, chain-passed, Exactly, refused-exactly, exactly-at, line-passes}
 use Rattle.trees.specs.CheckLaws.{judged-rising, outside-not, not-outside, inner-from, stray-not, check6-closed}
 use Rattle.trees.specs.WayLaws.{Closed, ends-enough}
+
+pub accepted-to : (v : Verdict) → isAccepted v ≡ true → v ≡ accepted
+accepted-to accepted e = refl
+accepted-to (refused k p) e = absurd (false≢true e)
+accepted-to (counted a b c) e = absurd (false≢true e)
 
 -- ---- acceptance is validity
 

@@ -2,7 +2,7 @@
 use mathlib.Core.Path.{_∙_}
 use denote.Ref.{now}
 use Rattle.count.specs.Studies.{Study}
-use Rattle.report.specs.ReportedLaws.{formed-long}
+use Rattle.runs.specs.SlotLaws.{formed-long}
 use Rattle.report.proofs.CallLaws.{report-stops, report-some, report-goes}
 use borrow.Author.Needs.{needs}
 use Rattle.report.proofs.report_formed.Statement.{statement}
@@ -21,14 +21,10 @@ study : (c : tie.After-report-given) → Study (now (began c .args .words)) (siz
 study c = record { formed = began c .pre; over = sized c .samples .ensures; force = forced c .in-force .ensures }
 
 samples-requires : tie.Need-samples-requires
-samples-requires c κs =
-    let st : tie.Start = search needs in
-    formed-long (now (st .args .words)) (st .pre)
+samples-requires c κs = search formed-long
 
 in-force-requires : tie.Need-in-force-requires
-in-force-requires c κs =
-    let st : tie.Start = search needs in
-    formed-long (now (st .args .words)) (st .pre)
+in-force-requires c κs = search formed-long
 
 report-given-requires : tie.Need-report-given-requires
 report-given-requires c κs = search needs

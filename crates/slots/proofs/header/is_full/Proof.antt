@@ -1,5 +1,5 @@
 -- `slots::is_full` meets its contract. Assumes nothing.
-use Rattle.slots.specs.SlotLaws.{formed-long}
+use Rattle.runs.specs.SlotLaws.{formed-long}
 use borrow.Author.Needs.{needs}
 use Rattle.slots.proofs.header.is_full.Statement.{statement}
 use Rattle.slots.proofs.header.is_full.Tie as tie

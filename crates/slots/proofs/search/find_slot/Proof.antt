@@ -8,7 +8,7 @@ use lib.ListN.{length, getD}
 use borrow.Author.Count.{below-none, below-more}
 use Rattle.runs.specs.Words.{samples, inForce, slotWords, slotStart}
 use Rattle.runs.specs.Moves.{identifierAt}
-use Rattle.slots.specs.SlotLaws.{formed-long, formed-fits, slot-within, slot-after}
+use Rattle.runs.specs.SlotLaws.{formed-long, formed-fits, slot-within, slot-after}
 use borrow.Author.Needs.{needs}
 use Rattle.slots.proofs.search.find_slot.Statement.{statement}
 use Rattle.slots.proofs.search.find_slot.Tie as tie

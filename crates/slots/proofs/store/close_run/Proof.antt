@@ -6,7 +6,7 @@ use denote.Ref.{now}
 use mathlib.Core.List.{List}
 use lib.ListN.{set}
 use Rattle.runs.specs.Words.{samples, inForce, inForceAt, slotStart}
-use Rattle.slots.specs.SlotLaws.{formed-long, formed-fits, formed-few, slot-within}
+use Rattle.runs.specs.SlotLaws.{formed-long, formed-fits, formed-few, slot-within}
 use borrow.Author.Needs.{needs}
 use Rattle.slots.proofs.store.close_run.Statement.{statement}
 use Rattle.slots.proofs.store.close_run.Tie as tie

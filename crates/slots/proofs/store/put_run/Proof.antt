@@ -6,7 +6,7 @@ use denote.Ref.{now}
 use mathlib.Core.List.{List}
 use lib.ListN.{set}
 use Rattle.runs.specs.Words.{samples, inForce, inForceAt}
-use Rattle.slots.specs.SlotLaws.{formed-long, formed-fits, formed-few, next-fits, slot-order}
+use Rattle.runs.specs.SlotLaws.{formed-long, formed-fits, formed-few, next-fits, slot-order}
 use borrow.Author.Needs.{needs}
 use Rattle.slots.proofs.store.put_run.Statement.{statement}
 use Rattle.slots.proofs.store.put_run.Tie as tie

@@ -1,5 +1,5 @@
 -- `study::calls::add_formed` meets its contract: what is given is checked, then the slots. Assumes nothing.
-use Rattle.slots.specs.SlotLaws.{formed-long}
+use Rattle.runs.specs.SlotLaws.{formed-long}
 use mathlib.Core.Path.{sym, ap, _∙_}
 use denote.Ref.{now}
 use Rattle.runs.specs.Words.{samples}

@@ -3,7 +3,7 @@ use lib.ListN.{length}
 use native.Mathlib.Nat.{zero-mul, sub-zero}
 use borrow.Author.Tests.{not-true, not-false}
 use Rattle.runs.specs.Words.{slotWords, slotStart, runAt}
-use Rattle.slots.specs.SlotLaws.{slot-within, slot-after}
+use Rattle.runs.specs.SlotLaws.{slot-within, slot-after}
 use Rattle.study.proofs.FormLaws.{stored-on, stored-off, stored-end}
 use mathlib.Core.Path.{_≡_, sym, _∙_}
 use Prim.Native.Nat.{_-_, _≤_}

@@ -8,10 +8,9 @@ use native.Mathlib.Numerals.{add-one}
 use native.Mathlib.Omega.{arith}
 use lib.ListN.{length}
 use borrow.Author.Tests.{eqb-false}
-use Rattle.runs.specs.Words.{samples, inForce, headerWords, slotWords, slotStart, mostRuns, capacity}
+use Rattle.runs.specs.Words.{samples, inForce, headerWords, slotWords, slotStart, mostRuns, capacity, full}
 use Rattle.runs.specs.Formed.{Formed}
 use Rattle.runs.specs.WordLaws.{capacity-most, capacity-room, slot-next}
-use Rattle.slots.specs.Slots.{full}
 
 -- a slot ends within the words that have those behind it
 pub slot-within : (n i k len : ℕ) → i < k → slotStart n k ≤ len → slotStart n i + slotWords n ≤ len
@@ -27,6 +26,7 @@ slot-after n i = rw add-one (slot-next n i)
 -- ---- what a well-formed study has room for
 
 module _ {w : List ℕ} (f : Formed w) where
+  -- its header
   pub formed-long : headerWords ≤ length w
   formed-long = omega (arith, capacity-room (length w) (samples w) (inForce w) (f .one) (f .fits))
 
