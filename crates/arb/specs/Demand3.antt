@@ -38,8 +38,9 @@ made-answers w (c ∷ h) (a ∷ xs) z m =
     ap (λ (x : Verdict). x ∷ map verdict xs) (m .1 .answer)
     ∙ ap (λ (vs : List Verdict). called w c .verdict ∷ vs) (made-answers (m .0) h xs z (m .2) ∙ ap (λ (x : List ℕ). answers x h) (m .1 .words))
 
-module _ (n : ℕ) (w fresh : List ℕ) (a b : Answer) (v u : List ℕ) (o : Leaves (opened n w) a v) (f : Leaves (opened n fresh) b u) (yes : verdict a ≡ accepted) (same : length fresh ≡ length w) where
-  -- a history on an opened study, and the runs in force given to a fresh one in any order, each xs any row with its groups: the fresh one opens,
+module _ (n : ℕ) (w fresh : List ℕ) (a b : Answer) (v u : List ℕ) (o : Leaves (opened n w) a v) (f : Leaves (opened n fresh) b u) (yes : verdict a ≡ accepted)
+    (same : length fresh ≡ length w) where
+  -- a history on an opened study, and the runs in force given to a fresh one in any order, each as any row with its groups: the fresh one opens,
   -- accepts each of them, and ends with the same words
   pub demand-3-calls : (h : List Call) (xs : List Answer) (z : List ℕ) → identified h ≡ true → Made v h xs z → (given : List Run) → Anew n w h given
       → (bs : List Answer) (y : List ℕ) → Made u (adds given) bs y → (verdict b ≡ accepted) × (every isAccepted (map verdict bs) ≡ true) × (y ≡ z)
@@ -47,9 +48,14 @@ module _ (n : ℕ) (w fresh : List ℕ) (a b : Answer) (v u : List ℕ) (o : Lea
       let r = demand-3 n w h given (sym (o .answer) ∙ yes) i anew fresh same in (
         f .answer ∙ r .opens,
         ap (every isAccepted) (made-answers u (adds given) bs y k ∙ ap (λ (x : List ℕ). answers x (adds given)) (f .words)) ∙ r .takes,
-        made-after u (adds given) bs y k ∙ ap (λ (x : List ℕ). after x (adds given)) (f .words) ∙ r .words ∙ sym (made-after v h xs z m ∙ ap (λ (x : List ℕ). after x h) (o .words)),
+        made-after u (adds given) bs y k ∙ ap (λ (x : List ℕ). after x (adds given)) (f .words) ∙ r .words
+            ∙ sym (made-after v h xs z m ∙ ap (λ (x : List ℕ). after x h) (o .words)),
       )
 
   -- every later call answers alike: the same calls on both have the same verdicts and leave the same words
-  pub demand-3-later-calls : (z : List ℕ) (later : List Call) (xs bs : List Answer) (x y : List ℕ) → Made z later xs x → Made z later bs y → (map verdict xs ≡ map verdict bs) × (x ≡ y)
-  demand-3-later-calls z later xs bs x y k l = (made-answers z later xs x k ∙ sym (made-answers z later bs y l), made-after z later xs x k ∙ sym (made-after z later bs y l))
+  pub demand-3-later-calls : (z : List ℕ) (later : List Call) (xs bs : List Answer) (x y : List ℕ) → Made z later xs x → Made z later bs y
+      → (map verdict xs ≡ map verdict bs) × (x ≡ y)
+  demand-3-later-calls z later xs bs x y k l = (
+    made-answers z later xs x k ∙ sym (made-answers z later bs y l),
+    made-after z later xs x k ∙ sym (made-after z later bs y l),
+  )

@@ -33,7 +33,8 @@ pub add-determined : (words : List ℕ) (id : ℕ) (row : List ℕ) (a b : Answe
     → Leaves (added words id row) a v → Leaves (added words id row) b w → (a ≡ b) × (v ≡ w)
 add-determined words id row = outcome-determined (added words id row)
 
-pub withdraw-determined : (words : List ℕ) (id : ℕ) (a b : Answer) (v w : List ℕ) → Leaves (withdrawn words id) a v → Leaves (withdrawn words id) b w → (a ≡ b) × (v ≡ w)
+pub withdraw-determined : (words : List ℕ) (id : ℕ) (a b : Answer) (v w : List ℕ) → Leaves (withdrawn words id) a v
+    → Leaves (withdrawn words id) b w → (a ≡ b) × (v ≡ w)
 withdraw-determined words id = outcome-determined (withdrawn words id)
 
 pub renumber-determined : (n : ℕ) (row out : List ℕ) (a b : Answer) (v w : List ℕ)

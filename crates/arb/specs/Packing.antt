@@ -26,4 +26,5 @@ abbrev pub unpacked : ℕ → Verdict
 unpacked x = cond (eqb (x % numbers) 0) accepted (refused (x % numbers) (x / numbers))
 
 abbrev pub unpackedCounts : ℕ → Verdict
-unpackedCounts x = cond (eqb (x % numbers) 0) (counted (x / 65536 % counts) (x / 4294967296 % counts) (x / 281474976710656)) (refused (x % numbers) (x / numbers))
+unpackedCounts x = cond (eqb (x % numbers) 0) (counted (x / 65536 % counts) (x / 4294967296 % counts) (x / 281474976710656))
+    (refused (x % numbers) (x / numbers))

@@ -21,7 +21,8 @@ unpacked-packed (refused k p) s x = let t = refused-back k p (s .0) (s .1) (s .2
 unpacked-packed (counted a b c) s x = absurd (x a b c refl)
 
 counted-back : (a b c : ℕ) → a < counts → b < counts → c < counts
-    → (packed (counted a b c) % numbers ≡ 0) × (packed (counted a b c) / 65536 % counts ≡ a) × (packed (counted a b c) / 4294967296 % counts ≡ b) × (packed (counted a b c) / 281474976710656 ≡ c)
+    → (packed (counted a b c) % numbers ≡ 0) × (packed (counted a b c) / 65536 % counts ≡ a)
+    × (packed (counted a b c) / 4294967296 % counts ≡ b) × (packed (counted a b c) / 281474976710656 ≡ c)
 counted-back a b c h l m = (omega arith, omega arith, omega arith, omega arith)
 
 pub unpacked-counted : (a b c : ℕ) → Small (counted a b c) → unpackedCounts (packed (counted a b c)) ≡ counted a b c

@@ -12,7 +12,8 @@ use Rattle.trees.specs.ValidLaws.{only-two, nodes-refused}
 use Rattle.arb.specs.Specimens.{AllSay, specimens}
 
 pub specimens-hold : AllSay specimens
-unfolding tabulate filter first weigh size lowest same listFirst before member nodes parent meets ends groupAt groups _⊳_ rowChecks judgeChecks judged enter ordered groupSet lastWith parents rowOf renumbered compared support total held shown agreed supports
+unfolding tabulate filter first weigh size lowest same listFirst before member nodes parent meets ends groupAt groups
+    _⊳_ rowChecks judgeChecks judged enter ordered groupSet lastWith parents rowOf renumbered compared support total held shown agreed supports
 specimens-hold = (
   refl,
   (

@@ -44,6 +44,13 @@ row2 = 8 ∷ 6 ∷ 6 ∷ 6 ∷ 7 ∷ 7 ∷ rootMark ∷ 5 ∷ 5 ∷ 0 ∷ []
 abbrev pub row3 : List ℕ
 row3 = 9 ∷ 7 ∷ 7 ∷ 5 ∷ 8 ∷ 8 ∷ rootMark ∷ 5 ∷ 6 ∷ 6 ∷ []
 
+-- three samples, with the group {0,1}, and with the group {0,2}
+abbrev pub row01 : List ℕ
+row01 = 5 ∷ 4 ∷ 4 ∷ 3 ∷ rootMark ∷ 3 ∷ []
+
+abbrev pub row02 : List ℕ
+row02 = 5 ∷ 4 ∷ 3 ∷ 4 ∷ rootMark ∷ 3 ∷ []
+
 abbrev pub specimens : List Specimen
 specimens =
     -- "n=2: 3 2 2 65535 is valid. It is the only tree."
@@ -70,7 +77,7 @@ specimens =
     -- "The three runs above: agreed row 9 7 7 6 8 8 65535 5 6 5, support row 3 3 3 3 3 3 3 2 2 2."
     ∷ reports 5 (run 1 row1 ∷ run 2 row2 ∷ run 3 row3 ∷ []) (9 ∷ 7 ∷ 7 ∷ 6 ∷ 8 ∷ 8 ∷ rootMark ∷ 5 ∷ 6 ∷ 5 ∷ []) (3 ∷ 3 ∷ 3 ∷ 3 ∷ 3 ∷ 3 ∷ 3 ∷ 2 ∷ 2 ∷ 2 ∷ [])
     -- "n=3, two runs holding {0,1} and {0,2}: agreed row 4 3 3 3 65535 0, support row 2 2 2 2 2 0."
-    ∷ reports 3 (run 1 (5 ∷ 4 ∷ 4 ∷ 3 ∷ rootMark ∷ 3 ∷ []) ∷ run 2 (5 ∷ 4 ∷ 3 ∷ 4 ∷ rootMark ∷ 3 ∷ []) ∷ []) (4 ∷ 3 ∷ 3 ∷ 3 ∷ rootMark ∷ 0 ∷ []) (2 ∷ 2 ∷ 2 ∷ 2 ∷ 2 ∷ 0 ∷ [])
+    ∷ reports 3 (run 1 row01 ∷ run 2 row02 ∷ []) (4 ∷ 3 ∷ 3 ∷ 3 ∷ rootMark ∷ 0 ∷ []) (2 ∷ 2 ∷ 2 ∷ 2 ∷ 2 ∷ 0 ∷ [])
     -- "Comparing runs 1 and 2: 7 in both, 1, 1."
     ∷ compares 5 row1 row2 (counted 7 1 1)
     ∷ []

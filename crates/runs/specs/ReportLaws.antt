@@ -40,8 +40,7 @@ module _ (rule : Rule) (w a s : List ℕ) where
   unfolding reported
   reported-refused k p e = (
     ap (λ (v : Verdict). cond (isAccepted v) (agreed rule (samples w) (runs w)) a) e,
-    ap
-        (λ (v : Verdict). cond (isAccepted v) (supports rule (samples w) (runs w)) s) e,
+    ap (λ (v : Verdict). cond (isAccepted v) (supports rule (samples w) (runs w)) s) e,
   )
 
   -- an accepted report leaves the agreed row and the support row of the runs in force
@@ -50,8 +49,7 @@ module _ (rule : Rule) (w a s : List ℕ) where
   unfolding reported
   reported-rows e = (
     ap (λ (v : Verdict). cond (isAccepted v) (agreed rule (samples w) (runs w)) a) e,
-    ap
-        (λ (v : Verdict). cond (isAccepted v) (supports rule (samples w) (runs w)) s) e,
+    ap (λ (v : Verdict). cond (isAccepted v) (supports rule (samples w) (runs w)) s) e,
   )
 
   -- then the study is well formed, and has a run in force

@@ -1,4 +1,4 @@
--- Climbing in a standard row: it may go on from any place passed, and comes to the last number below a bound of a kept group that has the sample. Assumes nothing.
+-- Climbing in a standard row: it may go on from any place passed, and finds the last number below a bound of a kept group with the sample. Assumes nothing.
 use Prim.Native.Nat.{ℕ, zero, suc, _+_, _-_, _≤_, _<_, max}
 use mathlib.Core.Path.{_≡_, refl, sym, ap, _∙_}
 use mathlib.Core.Logic.{_⊎_, inl, inr, ⊎-elim}
@@ -37,7 +37,8 @@ module _ {n : ℕ} {r : List ℕ} (std : Standard n r) where
 
   -- what has a node's sample and a lower number is not behind its parent
   parent-last : (v w s : ℕ) → n ≤ w → w < v → v < nodes r → has (groupAt n r v) s ≡ true → has (groupAt n r w) s ≡ true → w ≤ parent r v
-  parent-last v w s a h k e f = ⊎-elim up (λ m. absurd (not-up n r std w v a h k m)) (meets-line r (nodes r) v w s (group-has n r v s e .1) (group-has n r w s f .1))
+  parent-last v w s a h k e f = ⊎-elim up (λ m. absurd (not-up n r std w v a h k m))
+      (meets-line r (nodes r) v w s (group-has n r v s e .1) (group-has n r w s f .1))
     where
       up : Above r w v → w ≤ parent r v
       up m = let t = falls .down v (omega arith) k in above-low w (parent r v) (meets-past r (nodes r) w v (λ q. omega arith) m) (t .0) (omega arith)
@@ -49,7 +50,8 @@ module _ {n : ℕ} {r : List ℕ} (std : Standard n r) where
   leaf-last s w z a h e = let t = falls .leaf s z in above-low w (parent r s) (meets-past r (nodes r) w s (λ q. omega arith) (group-has n r w s e .1)) (t .0) h
 
   leaf-has : (s : ℕ) → s < n → has (groupAt n r (parent r s)) s ≡ true
-  leaf-has s z = let t = falls .leaf s z in in-group n r (parent r s) s z (child-above n r (valid-rooted n r (std .valid)) s (parent r s) (omega (arith, std .valid .low)) (t .1) refl)
+  leaf-has s z = let t = falls .leaf s z in
+      in-group n r (parent r s) s z (child-above n r (valid-rooted n r (std .valid)) s (parent r s) (omega (arith, std .valid .low)) (t .1) refl)
 
   module _ (up : List ℕ) where
     -- ---- climbing, step by step
@@ -67,9 +69,11 @@ module _ {n : ℕ} {r : List ℕ} (std : Standard n r) where
     unfolding climbed
     climb-fuel zero g i v z a h k l = absurd (omega arith)
     climb-fuel (suc f) zero i v z a h k l = absurd (omega arith)
-    climb-fuel (suc f) (suc g) i v z a h k l = go (decide (ltb (entry up v) i)) (λ b c d. climb-fuel f g i (parent r v) z b (omega arith) (omega arith) (omega arith))
+    climb-fuel (suc f) (suc g) i v z a h k l = go (decide (ltb (entry up v) i))
+        (λ b c d. climb-fuel f g i (parent r v) z b (omega arith) (omega arith) (omega arith))
       where
-        go : (ltb (entry up v) i ≡ true) ⊎ (ltb (entry up v) i ≡ false) → (n ≤ parent r v → parent r v < v → n < v → climbed f r up i (parent r v) ≡ climbed g r up i (parent r v))
+        go : (ltb (entry up v) i ≡ true) ⊎ (ltb (entry up v) i ≡ false)
+            → (n ≤ parent r v → parent r v < v → n < v → climbed f r up i (parent r v) ≡ climbed g r up i (parent r v))
             → cond (ltb (entry up v) i) v (climbed f r up i (parent r v)) ≡ cond (ltb (entry up v) i) v (climbed g r up i (parent r v))
         go (inl e) t = rw e
         go (inr e) t = let b = not-root i v z a (ltb-false (entry up v) i e) in let d = falls .down v b h in rw e (t (d .0) (d .1) b)
@@ -87,7 +91,8 @@ module _ {n : ℕ} {r : List ℕ} (std : Standard n r) where
     climb-range zero i v z a h = (a, omega arith)
     climb-range (suc f) i v z a h = go (decide (ltb (entry up v) i)) (λ b c. climb-range f i (parent r v) z b c)
       where
-        go : (ltb (entry up v) i ≡ true) ⊎ (ltb (entry up v) i ≡ false) → (n ≤ parent r v → parent r v < nodes r → (n ≤ climbed f r up i (parent r v)) × (climbed f r up i (parent r v) ≤ parent r v))
+        go : (ltb (entry up v) i ≡ true) ⊎ (ltb (entry up v) i ≡ false)
+            → (n ≤ parent r v → parent r v < nodes r → (n ≤ climbed f r up i (parent r v)) × (climbed f r up i (parent r v) ≤ parent r v))
             → (n ≤ cond (ltb (entry up v) i) v (climbed f r up i (parent r v))) × (cond (ltb (entry up v) i) v (climbed f r up i (parent r v)) ≤ v)
         go (inl e) t = rw e (a, omega arith)
         go (inr e) t = let d = climb-lower i v z a h (ltb-false (entry up v) i e) in let k = t (d .1) (omega arith) in rw e (k .0, omega arith)
@@ -98,7 +103,8 @@ module _ {n : ℕ} {r : List ℕ} (std : Standard n r) where
     climb-again zero i j v z l a h = refl
     climb-again (suc f) i j v z l a h = go (decide (ltb (entry up v) i)) (λ b c. climb-again f i j (parent r v) z l b c)
       where
-        go : (ltb (entry up v) i ≡ true) ⊎ (ltb (entry up v) i ≡ false) → (n ≤ parent r v → parent r v < nodes r → climbed (nodes r) r up j (climbed f r up i (parent r v)) ≡ climbed (nodes r) r up j (parent r v))
+        go : (ltb (entry up v) i ≡ true) ⊎ (ltb (entry up v) i ≡ false)
+            → (n ≤ parent r v → parent r v < nodes r → climbed (nodes r) r up j (climbed f r up i (parent r v)) ≡ climbed (nodes r) r up j (parent r v))
             → climbed (nodes r) r up j (cond (ltb (entry up v) i) v (climbed f r up i (parent r v))) ≡ climbed (nodes r) r up j v
         go (inl e) t = rw e
         go (inr e) t =
@@ -109,17 +115,24 @@ module _ {n : ℕ} {r : List ℕ} (std : Standard n r) where
     -- ---- places
 
     pub placed-start : (i : ℕ) {places : List ℕ} → length places ≡ mostSamples → Tabled (parent r) 0 n places → Placed n r up i places
-    placed-start i l t = record { words = l; node = λ s z. rw (t .is s (omega arith) z) (falls .leaf s z); same = λ s j z e k. ap (climbed (nodes r) r up j) (t .is s (omega arith) z) }
+    placed-start i l t = record {
+      words = l;
+      node = λ s z. rw (t .is s (omega arith) z) (falls .leaf s z);
+      same = λ s j z e k. ap (climbed (nodes r) r up j) (t .is s (omega arith) z);
+    }
 
     pub placed-less : {i j : ℕ} {places : List ℕ} → Placed n r up i places → j ≤ i → Placed n r up j places
     placed-less p l = record { words = p .words; node = p .node; same = λ s k z e q. p .same s k z e (omega arith) }
 
-    pub placed-lift : {i s x : ℕ} {places moved : List ℕ} → Placed n r up i places → entry up n < i → s < n → Lifted r up places i s moved x → Placed n r up i moved × (x ≡ nearest r up i s)
+    pub placed-lift : {i s x : ℕ} {places moved : List ℕ} → Placed n r up i places → entry up n < i → s < n → Lifted r up places i s moved x
+        → Placed n r up i moved × (x ≡ nearest r up i s)
     placed-lift {i} {s} {x} {places} {moved} p z k t = (
       rw (t .stored) (record {
         words = length-set places s _ ∙ p .words;
-        node = λ u l. ⊎-elim (λ q. rw (at u (eqb-true u s q)) (range .0, omega (arith, range .1, p .node s k))) (λ q. rw (off u (eqb-false u s q)) (p .node u l)) (decide (eqb u s));
-        same = λ u j l a b. ⊎-elim (λ q. rw (at u (eqb-true u s q)) (again u j a b (eqb-true u s q))) (λ q. rw (off u (eqb-false u s q)) (p .same u j l a b)) (decide (eqb u s));
+        node = λ u l. ⊎-elim (λ q. rw (at u (eqb-true u s q)) (range .0, omega (arith, range .1, p .node s k)))
+            (λ q. rw (off u (eqb-false u s q)) (p .node u l)) (decide (eqb u s));
+        same = λ u j l a b. ⊎-elim (λ q. rw (at u (eqb-true u s q)) (again u j a b (eqb-true u s q)))
+            (λ q. rw (off u (eqb-false u s q)) (p .same u j l a b)) (decide (eqb u s));
       }),
       t .number ∙ ap (entry up) (p .same s i k z (omega arith)),
     )
@@ -133,8 +146,10 @@ module _ {n : ℕ} {r : List ℕ} (std : Standard n r) where
         off : (u : ℕ) → (u ≡ s → ⊥) → entry (set places s (climbed (nodes r) r up i (entry places s))) u ≡ entry places u
         off u q = getD-set-other places s u _ 0 q
 
-        again : (u j : ℕ) → entry up n < j → j ≤ i → u ≡ s → climbed (nodes r) r up j (climbed (nodes r) r up i (entry places s)) ≡ climbed (nodes r) r up j (parent r u)
-        again u j a b q = climb-again (nodes r) i j (entry places s) a b (p .node s k .0) (p .node s k .1) ∙ p .same s j k a b ∙ ap (λ (w : ℕ). climbed (nodes r) r up j (parent r w)) (sym q)
+        again : (u j : ℕ) → entry up n < j → j ≤ i → u ≡ s
+            → climbed (nodes r) r up j (climbed (nodes r) r up i (entry places s)) ≡ climbed (nodes r) r up j (parent r u)
+        again u j a b q = climb-again (nodes r) i j (entry places s) a b (p .node s k .0) (p .node s k .1) ∙ p .same s j k a b
+            ∙ ap (λ (w : ℕ). climbed (nodes r) r up j (parent r w)) (sym q)
 
     -- ---- what climbing has passed
 
@@ -146,7 +161,8 @@ module _ {n : ℕ} {r : List ℕ} (std : Standard n r) where
       pub past : (w : ℕ) → v < w → w < nodes r → has (groupAt n r w) s ≡ true → i ≤ entry up w
 
     pub past-start : (s i : ℕ) → s < n → Past s i (parent r s)
-    past-start s i z = let t = falls .leaf s z in record { low = t .0; high = t .1; on = leaf-has s z; past = λ w a h e. absurd (omega (arith, leaf-last s w z (omega arith) h e)) }
+    past-start s i z = let t = falls .leaf s z in
+        record { low = t .0; high = t .1; on = leaf-has s z; past = λ w a h e. absurd (omega (arith, leaf-last s w z (omega arith) h e)) }
 
     past-step : (s i v : ℕ) → Past s i v → n < v → i ≤ entry up v → Past s i (parent r v)
     past-step s i v p a e = let t = falls .down v a (p .high) in record {
@@ -158,24 +174,33 @@ module _ {n : ℕ} {r : List ℕ} (std : Standard n r) where
       where
         go : (w : ℕ) → parent r v < w → w < nodes r → has (groupAt n r w) s ≡ true → (c : Bool) → ltb v w ≡ c → i ≤ entry up w
         go w b h f true q = p .past w (ltb-true v w q) h f
-        go w b h f false q = ⊎-elim (λ d. rw d e) (λ d. absurd (omega (arith, parent-last v w s (omega (arith, falls .down v a (p .high))) d (p .high) (p .on) f))) (eq-or-lt-of-le (ltb-false v w q))
+        go w b h f false q = ⊎-elim (λ d. rw d e) (λ d. absurd (omega (
+          arith,
+          parent-last v w s (omega (arith, falls .down v a (p .high))) d (p .high) (p .on) f,
+        ))) (eq-or-lt-of-le (ltb-false v w q))
 
     pub past-climbed : (f s i v : ℕ) → v < n + f → entry up n < i → Past s i v → Past s i (climbed f r up i v) × (entry up (climbed f r up i v) < i)
     unfolding climbed
     past-climbed zero s i v l z p = absurd (omega (arith, p .low))
     past-climbed (suc f) s i v l z p = go (decide (ltb (entry up v) i)) (λ q h. past-climbed f s i (parent r v) h z q)
       where
-        go : (ltb (entry up v) i ≡ true) ⊎ (ltb (entry up v) i ≡ false) → (Past s i (parent r v) → parent r v < n + f → Past s i (climbed f r up i (parent r v)) × (entry up (climbed f r up i (parent r v)) < i))
-            → Past s i (cond (ltb (entry up v) i) v (climbed f r up i (parent r v))) × (entry up (cond (ltb (entry up v) i) v (climbed f r up i (parent r v))) < i)
+        go : (ltb (entry up v) i ≡ true) ⊎ (ltb (entry up v) i ≡ false)
+            → (Past s i (parent r v) → parent r v < n + f → Past s i (climbed f r up i (parent r v)) × (entry up (climbed f r up i (parent r v)) < i))
+            → Past s i (cond (ltb (entry up v) i) v (climbed f r up i (parent r v)))
+            × (entry up (cond (ltb (entry up v) i) v (climbed f r up i (parent r v))) < i)
         go (inl e) t = rw e (p, ltb-true (entry up v) i e)
-        go (inr e) t = let k = ltb-false (entry up v) i e in let d = climb-lower i v z (p .low) (p .high) k in rw e (t (past-step s i v p (d .0) k) (omega arith))
+        go (inr e) t =
+            let k = ltb-false (entry up v) i e in
+            let d = climb-lower i v z (p .low) (p .high) k in
+            rw e (t (past-step s i v p (d .0) k) (omega arith))
 
   -- ---- the number of the nearest kept node
 
   pub raising-start : {num : List ℕ} {v : ℕ} → length num ≡ tableWords → v ≤ n + 1 → Raising n r num v num
   raising-start l h = record { words = l; root = refl; next = λ u a k. absurd (omega arith); rest = λ u a. refl }
 
-  pub raising-step : {num up : List ℕ} {v x : ℕ} → Raising n r num v up → n < v → v < nodes r → x ≡ cond (eqb (entry up v) 0) (entry up (parent r v)) (entry up v) → Raising n r num (v + 1) (set up v x)
+  pub raising-step : {num up : List ℕ} {v x : ℕ} → Raising n r num v up → n < v → v < nodes r
+      → x ≡ cond (eqb (entry up v) 0) (entry up (parent r v)) (entry up v) → Raising n r num (v + 1) (set up v x)
   raising-step {num} {up} {v} {x} t a h e = record {
     words = length-set up v x ∙ t .words;
     root = other n (λ q. omega arith) ∙ t .root;
@@ -212,7 +237,8 @@ module _ {n : ℕ} {r : List ℕ} (std : Standard n r) where
       of-parent : n < v → entry num v ≡ 0 → entry up v ≡ entry up (parent r v) → Next v
 
     next : (v : ℕ) → n ≤ v → v < nodes r → Next v
-    next v a h = ⊎-elim (λ q. own (ap (entry up) (sym q) ∙ is .root ∙ ap (entry num) q) (inr (sym q))) (λ q. go q (decide (eqb (entry num v) 0))) (eq-or-lt-of-le a)
+    next v a h = ⊎-elim (λ q. own (ap (entry up) (sym q) ∙ is .root ∙ ap (entry num) q) (inr (sym q)))
+        (λ q. go q (decide (eqb (entry num v) 0))) (eq-or-lt-of-le a)
       where
         go : n < v → (eqb (entry num v) 0 ≡ true) ⊎ (eqb (entry num v) 0 ≡ false) → Next v
         go q (inl e) = of-parent q (eqb-true (entry num v) 0 e) (is .next v q h ∙ (rw e))
@@ -226,18 +252,25 @@ module _ {n : ℕ} {r : List ℕ} (std : Standard n r) where
     from-above zero v l a h = absurd (omega arith)
     from-above (suc d) v l a h = go (next v a h) (λ b c. from-above d (parent r v) (omega arith) b (omega arith))
       where
-        go : Next v → (n ≤ parent r v → parent r v < v → (u : ℕ) × (n ≤ u) × (u ≤ parent r v) × Within (groupAt n r (parent r v)) (groupAt n r u) × (entry up (parent r v) ≡ entry num u))
+        go : Next v → (n ≤ parent r v → parent r v < v → (u : ℕ) × (n ≤ u) × (u ≤ parent r v) × Within (groupAt n r (parent r v)) (groupAt n r u)
+            × (entry up (parent r v) ≡ entry num u))
             → (u : ℕ) × (n ≤ u) × (u ≤ v) × Within (groupAt n r v) (groupAt n r u) × (entry up v ≡ entry num u)
         go (own e c) t = (v, a, omega arith, λ s f. f, e)
-        go (of-parent q e f) t = let p = falls .down v q h in let k = t (p .0) (p .1) in (k .0, k .1, omega arith, λ s g. k .3 s (parent-has v s q h g), f ∙ k .4)
+        go (of-parent q e f) t =
+            let p = falls .down v q h in
+            let k = t (p .0) (p .1) in
+            (k .0, k .1, omega arith, λ s g. k .3 s (parent-has v s q h g), f ∙ k .4)
 
     -- on the way up it falls
     up-falls : (d v w s : ℕ) → v < n + d → n ≤ w → w ≤ v → v < nodes r → has (groupAt n r v) s ≡ true → has (groupAt n r w) s ≡ true → entry up w ≤ entry up v
     up-falls zero v w s l a k h e f = absurd (omega arith)
-    up-falls (suc d) v w s l a k h e f = ⊎-elim (λ q. rw q (omega arith)) (λ q. go q (next v (omega arith) h) (λ b c g. up-falls d (parent r v) w s (omega arith) a c (omega arith) g f)) (eq-or-lt-of-le k)
+    up-falls (suc d) v w s l a k h e f = ⊎-elim (λ q. rw q (omega arith))
+        (λ q. go q (next v (omega arith) h) (λ b c g. up-falls d (parent r v) w s (omega arith) a c (omega arith) g f)) (eq-or-lt-of-le k)
       where
-        go : w < v → Next v → (parent r v < v → w ≤ parent r v → has (groupAt n r (parent r v)) s ≡ true → entry up w ≤ entry up (parent r v)) → entry up w ≤ entry up v
-        go q (own g (inl x)) t = let y = from-above (suc w) w (omega arith) a (omega arith) in omega (arith, y .4, rises (y .0) v (y .1) (omega (arith, y .2)) h x)
+        go : w < v → Next v → (parent r v < v → w ≤ parent r v → has (groupAt n r (parent r v)) s ≡ true → entry up w ≤ entry up (parent r v))
+            → entry up w ≤ entry up v
+        go q (own g (inl x)) t = let y = from-above (suc w) w (omega arith) a (omega arith) in
+            omega (arith, y .4, rises (y .0) v (y .1) (omega (arith, y .2)) h x)
         go q (own g (inr x)) t = absurd (omega arith)
         go q (of-parent b x g) t = let p = falls .down v b h in omega (arith, t (p .1) (parent-last v w s a q h e f) (parent-has v s b h e))
 
@@ -248,17 +281,20 @@ module _ {n : ℕ} {r : List ℕ} (std : Standard n r) where
       there = let t = from-above (suc v) v (omega arith) (p .low) (p .high) in (t .0, t .1, omega (arith, t .2, p .high), t .3 s (p .on), t .4);
     }
       where
-        near : (w : ℕ) → n ≤ w → w < nodes r → has (groupAt n r w) s ≡ true → entry num w < i → entry up w ≡ entry num w → (ltb v w ≡ true) ⊎ (ltb v w ≡ false) → entry num w ≤ entry up v
+        near : (w : ℕ) → n ≤ w → w < nodes r → has (groupAt n r w) s ≡ true → entry num w < i → entry up w ≡ entry num w → (ltb v w ≡ true) ⊎ (ltb v w ≡ false)
+            → entry num w ≤ entry up v
         near w a h f g y (inl q) = absurd (omega (arith, p .past w (ltb-true v w q) h f))
         near w a h f g y (inr q) = omega (arith, up-falls (suc v) v w s (omega arith) a (ltb-false v w q) (p .high) (p .on) f)
 
-        go : (w : ℕ) → n ≤ w → w < nodes r → has (groupAt n r w) s ≡ true → entry num w < i → (eqb (entry num w) 0 ≡ true) ⊎ (eqb (entry num w) 0 ≡ false) → entry num w ≤ entry up v
+        go : (w : ℕ) → n ≤ w → w < nodes r → has (groupAt n r w) s ≡ true → entry num w < i → (eqb (entry num w) 0 ≡ true) ⊎ (eqb (entry num w) 0 ≡ false)
+            → entry num w ≤ entry up v
         go w a h f g (inl x) = omega (arith, eqb-true (entry num w) 0 x)
         go w a h f g (inr x) = near w a h f g (own-number w a h (eqb-false (entry num w) 0 x)) (decide (ltb v w))
 
     -- climbing from a sample's parent finds it
     pub best-nearest : (s i : ℕ) → s < n → entry up n < i → Best num i s (nearest r up i s)
-    best-nearest s i z e = let t = past-climbed up (nodes r) s i (parent r s) (omega (arith, falls .leaf s z)) e (past-start up s i z) in best-past s i (climbed (nodes r) r up i (parent r s)) (t .0) (t .1)
+    best-nearest s i z e = let t = past-climbed up (nodes r) s i (parent r s) (omega (arith, falls .leaf s z)) e (past-start up s i z) in
+        best-past s i (climbed (nodes r) r up i (parent r s)) (t .0) (t .1)
 
     -- and for a bound above all numbers the parent has it
     pub best-parent : (s i : ℕ) → s < n → entry up (parent r s) < i → Best num i s (entry up (parent r s))
@@ -289,7 +325,8 @@ module _ {n : ℕ} {a upA b upB mins : List ℕ} {c : ℕ} (ready : Climbable n 
     pub climbs-sample : n + 1 < i → (entry parents (i - 1) ≡ entry mins (i - 1)) × (entry mins (i - 1) < n)
     climbs-sample h = (t .rest .is (i - 1) (omega arith) (omega arith), ready .sample (i - 1) (omega arith) (omega (arith, t .high)))
 
-    pub climbs-step : {s x y : ℕ} {movedA movedB : List ℕ} → n + 1 < i → s ≡ entry mins (i - 1) → Lifted a upA placesA (i - 1) s movedA x → Lifted b upB placesB (i - 1) s movedB y
+    pub climbs-step : {s x y : ℕ} {movedA movedB : List ℕ} → n + 1 < i → s ≡ entry mins (i - 1) → Lifted a upA placesA (i - 1) s movedA x
+        → Lifted b upB placesB (i - 1) s movedB y
         → Climbs n a upA b upB mins c (i - 1) (set parents (i - 1) (max x y)) movedA movedB
     climbs-step {s} {x} {y} {movedA} {movedB} h e u w =
         let z : s < n = omega (arith, climbs-sample h) in
@@ -301,18 +338,25 @@ module _ {n : ℕ} {a upA b upB mins : List ℕ} {c : ℕ} (ready : Climbable n 
           words = length-set parents (i - 1) (max x y) ∙ t .words;
           left = p .0;
           right = q .0;
-          done = record { is = λ v j k. ⊎-elim (λ d. here v (sym d) (p .1) (q .1)) (λ d. other v (λ f. omega arith) ∙ t .done .is v (omega arith) k) (eq-or-lt-of-le j) };
+          done = record {
+            is = λ v j k. ⊎-elim (λ d. here v (sym d) (p .1) (q .1))
+                (λ d. other v (λ f. omega arith) ∙ t .done .is v (omega arith) k) (eq-or-lt-of-le j);
+          };
           rest = record { is = λ v j k. other v (λ f. omega arith) ∙ t .rest .is v j (omega arith) };
         }
       where
         other : (v : ℕ) → (v ≡ i - 1 → ⊥) → entry (set parents (i - 1) (max x y)) v ≡ entry parents v
         other v f = getD-set-other parents (i - 1) v (max x y) 0 f
 
-        here : (v : ℕ) → v ≡ i - 1 → x ≡ nearest a upA (i - 1) s → y ≡ nearest b upB (i - 1) s → entry (set parents (i - 1) (max x y)) v ≡ parentOf n a upA b upB mins v
+        here : (v : ℕ) → v ≡ i - 1 → x ≡ nearest a upA (i - 1) s → y ≡ nearest b upB (i - 1) s
+            → entry (set parents (i - 1) (max x y)) v ≡ parentOf n a upA b upB mins v
         here v d p q = rw (d, getD-set-same parents (i - 1) (max x y) 0 (omega (arith, t .words, number-fits)), ne-eqb (i - 1) n (λ f. omega arith), ← e, p, q)
 
     pub climbs-end : i ≤ n + 1 → Tabled (parentOf n a upA b upB mins) n c (set parents n rootMark)
-    climbs-end h = record { is = λ v j k. ⊎-elim (λ d. here v (sym d)) (λ d. getD-set-other parents n v rootMark 0 (λ f. omega arith) ∙ t .done .is v (omega arith) k) (eq-or-lt-of-le j) }
+    climbs-end h = record {
+      is = λ v j k. ⊎-elim (λ d. here v (sym d))
+          (λ d. getD-set-other parents n v rootMark 0 (λ f. omega arith) ∙ t .done .is v (omega arith) k) (eq-or-lt-of-le j);
+    }
       where
         here : (v : ℕ) → v ≡ n → entry (set parents n rootMark) v ≡ parentOf n a upA b upB mins v
         here v d = rw (d, eq-eqb n n refl) (getD-set-same parents n rootMark 0 (omega (arith, t .words, number-fits, t .low)))

@@ -104,8 +104,7 @@ module _ (n : ℕ) (r : List ℕ) (ok : Falls n r) (rise : rising (rankAt n r) n
       last : leastAt n r own (nodes r - 1) < n
       last = omega (
         arith,
-        least-le own (groupAt n r (nodes r - 1)) (lowest (groupAt n r (nodes r - 1)))
-            (lowest-has (groupAt n r (nodes r - 1)) (omega (arith, big))),
+        least-le own (groupAt n r (nodes r - 1)) (lowest (groupAt n r (nodes r - 1))) (lowest-has (groupAt n r (nodes r - 1)) (omega (arith, big))),
         lowest-lt n r (nodes r - 1) (omega (arith, big)),
       )
 

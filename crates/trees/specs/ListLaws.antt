@@ -128,8 +128,7 @@ scan-from (suc d) t a b h = go (decide (ltb a b)) (decide (t a)) (scan-from d t 
 
     there : a < b → t a ≡ false → Scan t (suc a) b (first t (range (suc a) b)) → Scan t a b (first t (range a b))
     there l e (found i p w) = found i (first-pass t a b l e ∙ p) record {
-      from = omega
-          (arith, w .from);
+      from = omega (arith, w .from);
       to = w .to;
       passes = w .passes;
       none = at-or-past e i (w .none);

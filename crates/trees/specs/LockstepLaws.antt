@@ -73,7 +73,8 @@ Leads g hs = (h : Group) → In h hs → before g h ≡ true
 -- a group that leads all others of a list is the first in order
 front : (g : Group) (zs ws : List Group) → Leads g ws → ((z : Group) → member z zs ≡ (same z g || member z ws)) → ordered zs ≡ g ∷ ordered ws
 unfolding member
-front g zs ws f e = strict-unique (ordered zs) (g ∷ ordered ws) (strict-ordered zs) (λ h m. f h (sym (member-ordered h ws) ∙ m), strict-ordered ws) (λ z. member-ordered z zs ∙ e z ∙ ap (λ (b : Bool). same z g || b) (sym (member-ordered z ws)))
+front g zs ws f e = strict-unique (ordered zs) (g ∷ ordered ws) (strict-ordered zs) (λ h m. f h (sym (member-ordered h ws) ∙ m), strict-ordered ws)
+    (λ z. member-ordered z zs ∙ e z ∙ ap (λ (b : Bool). same z g || b) (sym (member-ordered z ws)))
 
 leads-both : (g : Group) (xs ys : List Group) → Leads g xs → Leads g ys → Leads g (xs ++ ys)
 leads-both g xs ys p q h m = ⊎-elim (p h) (q h) (or-cases (member h xs) (member h ys) (sym (member-append h xs ys) ∙ m))
@@ -85,7 +86,8 @@ module _ (g : Group) (xs ys : List Group) (p : Leads g xs) (q : Leads g ys) wher
 
   take-second : ordered (xs ++ (g ∷ ys)) ≡ g ∷ ordered (xs ++ ys)
   unfolding member
-  take-second = front g (xs ++ (g ∷ ys)) (xs ++ ys) (leads-both g xs ys p q) (λ z. rw (member-append z xs (g ∷ ys), member-append z xs ys) (swap (member z xs) (same z g) (member z ys)))
+  take-second = front g (xs ++ (g ∷ ys)) (xs ++ ys) (leads-both g xs ys p q)
+      (λ z. rw (member-append z xs (g ∷ ys), member-append z xs ys) (swap (member z xs) (same z g) (member z ys)))
     where
       swap : (a b c : Bool) → a || (b || c) ≡ (b || (a || c))
       swap true true c = refl
@@ -94,7 +96,8 @@ module _ (g : Group) (xs ys : List Group) (p : Leads g xs) (q : Leads g ys) wher
 
   take-both : ordered ((g ∷ xs) ++ (g ∷ ys)) ≡ g ∷ ordered (xs ++ ys)
   unfolding member
-  take-both = front g ((g ∷ xs) ++ (g ∷ ys)) (xs ++ ys) (leads-both g xs ys p q) (λ z. rw (member-append z xs (g ∷ ys), member-append z xs ys) (twice (same z g) (member z xs) (member z ys)))
+  take-both = front g ((g ∷ xs) ++ (g ∷ ys)) (xs ++ ys) (leads-both g xs ys p q)
+      (λ z. rw (member-append z xs (g ∷ ys), member-append z xs ys) (twice (same z g) (member z xs) (member z ys)))
     where
       twice : (a b c : Bool) → a || (b || (a || c)) ≡ (a || (b || c))
       twice true b c = refl
@@ -132,7 +135,11 @@ module _ {n : ℕ} {r : List ℕ} (std : Standard n r) (keep : List Bool) where
 
   rank-in : {z l : List ℕ} → Ranked n r z l → (x : ℕ) → n ≤ x → x < nodes r → rankOrEnd n (nodes r) z l x ≡ groupRank n (groupAt n r x)
   unfolding rankOrEnd
-  rank-in {z} {l} t x a h = rw (lt-ltb x (nodes r) h, rank-is n r z l t x h, least-is-lowest n (std .valid .most) (groupAt n r x) (length-group n r x) (full x a h))
+  rank-in {z} {l} t x a h = rw (
+    lt-ltb x (nodes r) h,
+    rank-is n r z l t x h,
+    least-is-lowest n (std .valid .most) (groupAt n r x) (length-group n r x) (full x a h),
+  )
 
   rank-past : (z l : List ℕ) (x : ℕ) → nodes r ≤ x → rankOrEnd n (nodes r) z l x ≡ rankEnd
   unfolding rankOrEnd
@@ -159,13 +166,15 @@ module _ {n : ℕ} {r : List ℕ} (std : Standard n r) (keep : List Bool) where
       go v a (inr q) = rw q
 
   -- its node takes the number c
-  side-take : (gs : List Group) (x y c : ℕ) (num : List ℕ) → Side n r keep gs x num → x < tableWords → n ≤ c → placeIn (groupAt n r x) gs ≡ c - n → x < nodes r → Next keep (x + 1) (nodes r) y → Side n r keep gs y (set num x c)
+  side-take : (gs : List Group) (x y c : ℕ) (num : List ℕ) → Side n r keep gs x num → x < tableWords → n ≤ c → placeIn (groupAt n r x) gs ≡ c - n → x < nodes r
+      → Next keep (x + 1) (nodes r) y → Side n r keep gs y (set num x c)
   side-take gs x y c num s f l e h t = record {
     low = omega (arith, s .low, t .low);
     high = t .high;
     kept = t .kept;
     words = length-set num x c ∙ s .words;
-    given = tabled-store (λ v. cond (ltb v x) (numberAt n r keep gs v) 0) (λ v. cond (ltb v y) (numberAt n r keep gs v) 0) n (nodes r) x c num (s .given) (omega (arith, s .words)) here (λ v a b d. other v d (tri v x));
+    given = tabled-store (λ v. cond (ltb v x) (numberAt n r keep gs v) 0) (λ v. cond (ltb v y) (numberAt n r keep gs v) 0) n (nodes r) x c num (s .given)
+        (omega (arith, s .words)) here (λ v a b d. other v d (tri v x));
   }
     where
       here : c ≡ cond (ltb x y) (numberAt n r keep gs x) 0
@@ -189,7 +198,8 @@ module _ {n : ℕ} {a : List ℕ} {keepA : List Bool} {b : List ℕ} {keepB : Li
   abbrev gs : List Group
   gs = merged n a keepA b keepB
 
-  pub lock-start : {numA numB mins : List ℕ} {x y : ℕ} → numA ≡ blank → numB ≡ blank → length mins ≡ tableWords → Next keepA n (nodes a) x → Next keepB n (nodes b) y
+  pub lock-start : {numA numB mins : List ℕ} {x y : ℕ} → numA ≡ blank → numB ≡ blank → length mins ≡ tableWords → Next keepA n (nodes a) x
+      → Next keepB n (nodes b) y
       → Lock n a keepA b keepB numA numB mins x y n
   unfolding merged
   lock-start {numA} {numB} {mins} {x} {y} p q l s t = record {
@@ -210,7 +220,8 @@ module _ {n : ℕ} {a : List ℕ} {keepA : List Bool} {b : List ℕ} {keepB : Li
     next-place : (g : Group) (zs : List Group) → drop (c - n) gs ≡ g ∷ zs → placeIn g gs ≡ c - n
     next-place g zs e = let t = drop-head gs (c - n) g zs e in place-at gs (merged-family ok .strict) (c - n) g (t .0) (t .1)
 
-    advance : (g : Group) (low x' y' : ℕ) (numA' numB' : List ℕ) → drop (c - n) gs ≡ g ∷ ordered (keptFrom n a keepA x' ++ keptFrom n b keepB y') → low ≡ lowest g
+    advance : (g : Group) (low x' y' : ℕ) (numA' numB' : List ℕ) → drop (c - n) gs ≡ g ∷ ordered (keptFrom n a keepA x' ++ keptFrom n b keepB y')
+        → low ≡ lowest g
         → Side n a keepA gs x' numA' → Side n b keepB gs y' numB' → Lock n a keepA b keepB numA' numB' (set mins c low) x' y' (c + 1)
     advance g low x' y' numA' numB' e d s t =
         let f = drop-head gs (c - n) g _ e in
@@ -221,7 +232,8 @@ module _ {n : ℕ} {a : List ℕ} {keepA : List Bool} {b : List ℕ} {keepB : Li
           least = omega (arith, lock .least);
           most = omega (arith, f .0, lock .least);
           words = length-set mins c low ∙ lock .words;
-          lows = tabled-more (lowOf n gs) n c low mins (lock .lows) (omega (arith, f .0, lock .least, lock .words, fewer n gs (merged-family ok), ok .first .valid .most)) (d ∙ ap lowest (sym (f .1)));
+          lows = tabled-more (lowOf n gs) n c low mins (lock .lows) (omega
+              (arith, f .0, lock .least, lock .words, fewer n gs (merged-family ok), ok .first .valid .most)) (d ∙ ap lowest (sym (f .1)));
           rest = rw q at (f .2);
         }
 
@@ -257,15 +269,18 @@ module _ {n : ℕ} {a : List ℕ} {keepA : List Bool} {b : List ℕ} {keepB : Li
       gb = groupAt n b y
 
       agrees : x < nodes a → y < nodes b → Agree ga gb
-      agrees h k = ok .agree ga gb (kept-in n a keepA n x (lock .left .low) h (lock .left .kept h)) (kept-in n b keepB n y (lock .right .low) k (lock .right .kept k))
+      agrees h k = ok .agree ga gb (kept-in n a keepA n x (lock .left .low) h (lock .left .kept h))
+          (kept-in n b keepB n y (lock .right .low) k (lock .right .kept k))
 
       first-leads : p < q → x < nodes a → Leads ga (keptFrom n b keepB y)
-      first-leads e h = leads-from (ok .second) keepB ga y (lock .right .low) (λ k. rank-ahead n (ok .first .valid .most) ga gb (length-group n a x) (length-group n b y) (agrees h k)
+      first-leads e h = leads-from (ok .second) keepB ga y (lock .right .low)
+          (λ k. rank-ahead n (ok .first .valid .most) ga gb (length-group n a x) (length-group n b y) (agrees h k)
           (full (ok .first) keepA x (lock .left .low) h) (full (ok .second) keepB y (lock .right .low) k)
           (omega (arith, rank-in (ok .first) keepA ka x (lock .left .low) h, rank-in (ok .second) keepB kb y (lock .right .low) k)))
 
       second-leads : q < p → y < nodes b → Leads gb (keptFrom n a keepA x)
-      second-leads e k = leads-from (ok .first) keepA gb x (lock .left .low) (λ h. rank-ahead n (ok .first .valid .most) gb ga (length-group n b y) (length-group n a x) (agree-sym ga gb (agrees h k))
+      second-leads e k = leads-from (ok .first) keepA gb x (lock .left .low)
+          (λ h. rank-ahead n (ok .first .valid .most) gb ga (length-group n b y) (length-group n a x) (agree-sym ga gb (agrees h k))
           (full (ok .second) keepB y (lock .right .low) k) (full (ok .first) keepA x (lock .left .low) h)
           (omega (arith, rank-in (ok .first) keepA ka x (lock .left .low) h, rank-in (ok .second) keepB kb y (lock .right .low) k)))
 
@@ -286,7 +301,8 @@ module _ {n : ℕ} {a : List ℕ} {keepA : List Bool} {b : List ℕ} {keepB : Li
 
       head-both : p ≡ q → x < nodes a → y < nodes b → drop (c - n) gs ≡ ga ∷ ordered (keptFrom n a keepA (suc x) ++ keptFrom n b keepB (suc y))
       head-both e h k = lock .rest ∙ ap (λ (xs : List Group). ordered (xs ++ keptFrom n b keepB y)) (kept-cons n a keepA x h (lock .left .kept h))
-          ∙ ap (λ (ys : List Group). ordered ((ga ∷ keptFrom n a keepA (suc x)) ++ ys)) (kept-cons n b keepB y k (lock .right .kept k) ∙ ap (λ (g : Group). g ∷ keptFrom n b keepB (suc y)) (sym (both-one e h k)))
+          ∙ ap (λ (ys : List Group). ordered ((ga ∷ keptFrom n a keepA (suc x)) ++ ys))
+          (kept-cons n b keepB y k (lock .right .kept k) ∙ ap (λ (g : Group). g ∷ keptFrom n b keepB (suc y)) (sym (both-one e h k)))
           ∙ take-both ga (keptFrom n a keepA (suc x)) (keptFrom n b keepB (suc y)) (leads-later (ok .first) keepA x (lock .left .low) h)
           (subst (λ (g : Group). Leads g (keptFrom n b keepB (suc y))) (sym (both-one e h k)) (leads-later (ok .second) keepB y (lock .right .low) k))
 
@@ -295,11 +311,13 @@ module _ {n : ℕ} {a : List ℕ} {keepA : List Bool} {b : List ℕ} {keepB : Li
       module _ (left : ltb x (nodes a) || ltb y (nodes b) ≡ true) where
         first-there : p ≤ q → x < nodes a
         first-there e = ⊎-elim (λ h. ltb-true x (nodes a) h)
-            (λ h. let k = ltb-true y (nodes b) h in rank-node (ok .first) keepA za la x (omega (arith, rank-in (ok .second) keepB kb y (lock .right .low) k, rank-short (ok .second) keepB y (lock .right .low) k)))
+            (λ h. let k = ltb-true y (nodes b) h in rank-node (ok .first) keepA za la x
+            (omega (arith, rank-in (ok .second) keepB kb y (lock .right .low) k, rank-short (ok .second) keepB y (lock .right .low) k)))
             (or-cases (ltb x (nodes a)) (ltb y (nodes b)) left)
 
         second-there : q ≤ p → y < nodes b
-        second-there e = ⊎-elim (λ h. let k = ltb-true x (nodes a) h in rank-node (ok .second) keepB zb lb y (omega (arith, rank-in (ok .first) keepA ka x (lock .left .low) k, rank-short (ok .first) keepA x (lock .left .low) k)))
+        second-there e = ⊎-elim (λ h. let k = ltb-true x (nodes a) h in rank-node (ok .second) keepB zb lb y
+            (omega (arith, rank-in (ok .first) keepA ka x (lock .left .low) k, rank-short (ok .first) keepA x (lock .left .low) k)))
             (λ h. ltb-true y (nodes b) h)
             (or-cases (ltb x (nodes a)) (ltb y (nodes b)) left)
 
@@ -325,20 +343,25 @@ module _ {n : ℕ} {a : List ℕ} {keepA : List Bool} {b : List ℕ} {keepB : Li
         node-fits r v s h = omega (arith, s .valid .high, s .valid .most)
 
         lowest-first : p ≤ q → x < nodes a → min p q % rankStep ≡ lowest ga
-        lowest-first e h = rw (min-eq-left e, rank-in (ok .first) keepA ka x (lock .left .low) h) (rank-lowest n (ok .first .valid .most) ga (length-group n a x) (full (ok .first) keepA x (lock .left .low) h))
+        lowest-first e h = rw (min-eq-left e, rank-in (ok .first) keepA ka x (lock .left .low) h)
+            (rank-lowest n (ok .first .valid .most) ga (length-group n a x) (full (ok .first) keepA x (lock .left .low) h))
 
         lowest-second : q ≤ p → y < nodes b → min p q % rankStep ≡ lowest gb
-        lowest-second e k = rw (min-eq-right e, rank-in (ok .second) keepB kb y (lock .right .low) k) (rank-lowest n (ok .first .valid .most) gb (length-group n b y) (full (ok .second) keepB y (lock .right .low) k))
+        lowest-second e k = rw (min-eq-right e, rank-in (ok .second) keepB kb y (lock .right .low) k)
+            (rank-lowest n (ok .first .valid .most) gb (length-group n b y) (full (ok .second) keepB y (lock .right .low) k))
 
-        pub lock-step : {first second : Bool} {low x' y' : ℕ} {numA' numB' : List ℕ} → Chosen p q first second low → Given numA keepA x (nodes a) c first numA' x' → Given numB keepB y (nodes b) c second numB' y'
+        pub lock-step : {first second : Bool} {low x' y' : ℕ} {numA' numB' : List ℕ} → Chosen p q first second low
+            → Given numA keepA x (nodes a) c first numA' x' → Given numB keepB y (nodes b) c second numB' y'
             → Lock n a keepA b keepB numA' numB' (set mins c low) x' y' (c + 1)
         lock-step {first} {second} {low} {x'} {y'} {numA'} {numB'} t u w = go (tri p q)
           where
             left-on : (h : x < nodes a) → first ≡ true → placeIn ga gs ≡ c - n → Side n a keepA gs x' numA'
-            left-on h e d = subst (Side n a keepA gs x') (u .stored e) (side-take (ok .first) keepA gs x x' c numA (lock .left) (node-fits a x (ok .first) h) (lock .least) d h (u .next e))
+            left-on h e d = subst (Side n a keepA gs x') (u .stored e)
+                (side-take (ok .first) keepA gs x x' c numA (lock .left) (node-fits a x (ok .first) h) (lock .least) d h (u .next e))
 
             right-on : (k : y < nodes b) → second ≡ true → placeIn gb gs ≡ c - n → Side n b keepB gs y' numB'
-            right-on k e d = subst (Side n b keepB gs y') (w .stored e) (side-take (ok .second) keepB gs y y' c numB (lock .right) (node-fits b y (ok .second) k) (lock .least) d k (w .next e))
+            right-on k e d = subst (Side n b keepB gs y') (w .stored e)
+                (side-take (ok .second) keepB gs y y' c numB (lock .right) (node-fits b y (ok .second) k) (lock .least) d k (w .next e))
 
             go : Tri p q → Lock n a keepA b keepB numA' numB' (set mins c low) x' y' (c + 1)
             go (less e) =
@@ -346,7 +369,8 @@ module _ {n : ℕ} {a : List ℕ} {keepA : List Bool} {b : List ℕ} {keepB : Li
                 let f : first ≡ true = t .left ∙ le-leb p q (omega arith) in
                 let d = head-first e h in
                 let s = w .same (t .right ∙ lt-leb q p e) in
-                advance ga low x' y' numA' numB' (rw (kept-next (ok .first) keepA x x' (u .next f), s .1) at d) (t .sample ∙ lowest-first (omega arith) h) (left-on h f (next-place ga _ d)) (rw (s .0, s .1) at (lock .right))
+                advance ga low x' y' numA' numB' (rw (kept-next (ok .first) keepA x x' (u .next f), s .1) at d) (t .sample ∙ lowest-first (omega arith) h)
+                (left-on h f (next-place ga _ d)) (rw (s .0, s .1) at (lock .right))
             go (equal e) =
                 let h = first-there (omega arith) in
                 let k = second-there (omega arith) in
@@ -354,17 +378,20 @@ module _ {n : ℕ} {a : List ℕ} {keepA : List Bool} {b : List ℕ} {keepB : Li
                 let g : second ≡ true = t .right ∙ le-leb q p (omega arith) in
                 let d = head-both e h k in
                 let i = next-place ga _ d in
-                advance ga low x' y' numA' numB' (rw (kept-next (ok .first) keepA x x' (u .next f), kept-next (ok .second) keepB y y' (w .next g)) at d) (t .sample ∙ lowest-first (omega arith) h)
+                advance ga low x' y' numA' numB' (rw (kept-next (ok .first) keepA x x' (u .next f), kept-next (ok .second) keepB y y' (w .next g)) at d)
+                (t .sample ∙ lowest-first (omega arith) h)
                 (left-on h f i) (right-on k g (rw (both-one e h k) at i))
             go (more e) =
                 let k = second-there (omega arith) in
                 let g : second ≡ true = t .right ∙ le-leb q p (omega arith) in
                 let d = head-second e k in
                 let s = u .same (t .left ∙ lt-leb p q e) in
-                advance gb low x' y' numA' numB' (rw (kept-next (ok .second) keepB y y' (w .next g), s .1) at d) (t .sample ∙ lowest-second (omega arith) k) (rw (s .0, s .1) at (lock .left)) (right-on k g (next-place gb _ d))
+                advance gb low x' y' numA' numB' (rw (kept-next (ok .second) keepB y y' (w .next g), s .1) at d) (t .sample ∙ lowest-second (omega arith) k)
+                (rw (s .0, s .1) at (lock .left)) (right-on k g (next-place gb _ d))
 
         -- each step goes on
-        pub lock-on : {first second : Bool} {low x' y' : ℕ} {numA' numB' : List ℕ} → Chosen p q first second low → Given numA keepA x (nodes a) c first numA' x' → Given numB keepB y (nodes b) c second numB' y' → x + y < x' + y'
+        pub lock-on : {first second : Bool} {low x' y' : ℕ} {numA' numB' : List ℕ} → Chosen p q first second low → Given numA keepA x (nodes a) c first numA' x'
+            → Given numB keepB y (nodes b) c second numB' y' → x + y < x' + y'
         lock-on t u w = elim (tri p q) [
           | less e ↦ omega (arith, u .next (t .left ∙ le-leb p q (omega arith)) .low, w .same (t .right ∙ lt-leb q p e))
           | equal e ↦ omega (arith, u .next (t .left ∙ le-leb p q (omega arith)) .low, w .next (t .right ∙ le-leb q p (omega arith)) .low)

@@ -171,8 +171,7 @@ module _ (n : ℕ) (q r : List ℕ) (ok : Falls n q) (start : ℕ → ℕ) (laid
           let h : s < n = group-has n r b s m .0 in
           let t = sym (placed n q ok start laid a s ha h) ∙ subst (λ (g : Group). has g s ≡ true) (sym e) m in (
             leb-true _ _ (and-l (leb (start a) (start s)) (ltb (start s) (start a + sizeAt n q a)) t),
-            ltb-true _ _
-                (and-r (leb (start a) (start s)) (ltb (start s) (start a + sizeAt n q a)) t),
+            ltb-true _ _ (and-r (leb (start a) (start s)) (ltb (start s) (start a + sizeAt n q a)) t),
             place-low n q ok start laid s h,
           )
 

@@ -117,8 +117,7 @@ strict-enter g (h ∷ hs) s = go (before g h) refl (same g h) refl (strict-enter
         front x (inr m) = before-trans g h x p (s .0 x m)
     go false p true q ih = s
     go false p false q ih = (
-      λ x m. back x (⊎-elim (λ e. inl (same-eq x g e)) (λ k. inr k)
-          (or-cases (same x g) (member x hs) (sym (member-enter x g hs) ∙ m))),
+      λ x m. back x (⊎-elim (λ e. inl (same-eq x g e)) (λ k. inr k) (or-cases (same x g) (member x hs) (sym (member-enter x g hs) ∙ m))),
       ih,
     )
       where
@@ -147,8 +146,7 @@ pub strict-append : (gs hs : List Group) → Strict gs → Strict hs → ((g h :
 strict-append [] hs s t b = t
 strict-append (g ∷ gs) hs s t b = (
   λ x m. go x (or-cases (member x gs) (member x hs) (sym (member-append x gs hs) ∙ m)),
-  strict-append gs hs (s .1) t
-      (λ x y m. b x y (in-tail x g gs m)),
+  strict-append gs hs (s .1) t (λ x y m. b x y (in-tail x g gs m)),
 )
   where
     go : (x : Group) → In x gs ⊎ In x hs → before g x ≡ true
@@ -185,8 +183,7 @@ strict-unique [] (h ∷ hs) s t m = absurd (in-none h (m h ∙ in-head h hs))
 strict-unique (g ∷ gs) [] s t m = absurd (in-none g (sym (m g) ∙ in-head g gs))
 strict-unique (g ∷ gs) (h ∷ hs) s t m = cc (
   heads,
-  strict-unique gs hs (s .1) (t .1)
-      (λ x. true-eq _ _ (tails g h gs hs heads s (λ y. m y) x) (tails h g hs gs (sym heads) t (λ y. sym (m y)) x)),
+  strict-unique gs hs (s .1) (t .1) (λ x. true-eq _ _ (tails g h gs hs heads s (λ y. m y) x) (tails h g hs gs (sym heads) t (λ y. sym (m y)) x)),
 )
   where
     heads : g ≡ h

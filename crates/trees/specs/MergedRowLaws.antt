@@ -35,38 +35,54 @@ use Rattle.trees.specs.ClimbingLaws.{Best, Rises, best-nearest, best-par
 
 -- ---- the numbers of one side
 
-module _ {n : ℕ} {gs : List Group} (fam : Family n gs) {r : List ℕ} (std : Standard n r) (keep : List Bool) (inside : (g : Group) → In g (kept n r keep) → In g gs)
-    {num : List ℕ} (t : Tabled (numberAt n r keep gs) n (nodes r) num) where
+-- a standard row whose kept groups are among gs, and their numbers in a table
+record Numbers (n : ℕ) (gs : List Group) (r : List ℕ) (keep : List Bool) (num : List ℕ) : Type 0 where
+  std : Standard n r
+  inside : (g : Group) → In g (kept n r keep) → In g gs
+  table : Tabled (numberAt n r keep gs) n (nodes r) num
+
+module _ {n : ℕ} {gs : List Group} (fam : Family n gs) {r : List ℕ} {keep : List Bool} {num : List ℕ} (side : Numbers n gs r keep num) where
   -- the number of a kept node is that of its group
-  number-group : (v : ℕ) → n ≤ v → v < nodes r → flagged keep v ≡ true → (n ≤ entry num v) × (entry num v < n + length gs) × (nth gs (entry num v - n) ≡ groupAt n r v)
+  number-group : (v : ℕ) → n ≤ v → v < nodes r → flagged keep v ≡ true
+      → (n ≤ entry num v) × (entry num v < n + length gs) × (nth gs (entry num v - n) ≡ groupAt n r v)
   number-group v a h e =
-      let p = place-in (groupAt n r v) gs (inside (groupAt n r v) (kept-in n r keep n v a h e)) in
-      let q : entry num v ≡ n + placeIn (groupAt n r v) gs = t .is v a h ∙ (rw e) in
+      let p = place-in (groupAt n r v) gs (side .inside (groupAt n r v) (kept-in n r keep n v a h e)) in
+      let q : entry num v ≡ n + placeIn (groupAt n r v) gs = side .table .is v a h ∙ (rw e) in
       let d : entry num v - n ≡ placeIn (groupAt n r v) gs = omega arith in
       (omega arith, omega arith, rw d (p .1))
 
+  number-none : (v : ℕ) → n ≤ v → v < nodes r → flagged keep v ≡ false → entry num v ≡ 0
+  number-none v a h e = side .table .is v a h ∙ (rw e)
+
   number-kept : (v : ℕ) → n ≤ v → v < nodes r → (entry num v ≡ 0 → ⊥) → flagged keep v ≡ true
-  number-kept v a h x = ⊎-elim (λ e. e) (λ e. absurd (x (t .is v a h ∙ (rw e)))) (decide (flagged keep v))
+  number-kept v a h x = ⊎-elim (λ e. e) (λ e. absurd (x (number-none v a h e))) (decide (flagged keep v))
 
   number-below : (v : ℕ) → n ≤ v → v < nodes r → entry num v < n + length gs
-  number-below v a h = ⊎-elim (λ e. number-group v a h e .1) (λ e. let q : entry num v ≡ 0 = t .is v a h ∙ (rw e) in omega (arith, two n gs fam)) (decide (flagged keep v))
+  number-below v a h = ⊎-elim (λ e. number-group v a h e .1) (λ e. omega (arith, number-none v a h e, two n gs fam)) (decide (flagged keep v))
 
-  number-rises : Rises std num
-  number-rises u w a h k x = ⊎-elim (λ e. go (number-group u a (omega arith) e) (number-group w (omega arith) k (number-kept w (omega arith) k x))) (λ e. let q : entry num u ≡ 0 = t .is u a (omega arith) ∙ (rw e) in omega arith) (decide (flagged keep u))
+  number-rises : Rises (side .std) num
+  number-rises u w a h k x = ⊎-elim (λ e. go (number-group u a (omega arith) e) (number-group w (omega arith) k (number-kept w (omega arith) k x)))
+      (λ e. omega (arith, number-none u a (omega arith) e)) (decide (flagged keep u))
     where
-      go : (n ≤ entry num u) × (entry num u < n + length gs) × (nth gs (entry num u - n) ≡ groupAt n r u) → (n ≤ entry num w) × (entry num w < n + length gs) × (nth gs (entry num w - n) ≡ groupAt n r w) → entry num u ≤ entry num w
-      go p q = omega (arith, index-before gs (fam .strict) (entry num u - n) (entry num w - n) (omega arith) (omega arith) (rw (p .2, q .2) (node-before n r std u w a h k)))
+      go : (n ≤ entry num u) × (entry num u < n + length gs) × (nth gs (entry num u - n) ≡ groupAt n r u)
+          → (n ≤ entry num w) × (entry num w < n + length gs) × (nth gs (entry num w - n) ≡ groupAt n r w) → entry num u ≤ entry num w
+      go p q = omega (
+        arith,
+        index-before gs (fam .strict) (entry num u - n) (entry num w - n) (omega arith) (omega arith)
+            (rw (p .2, q .2) (node-before n r (side .std) u w a h k)),
+      )
 
   -- the root, where it is kept, has the first
   number-root : flagged keep n ≡ true → entry num n ≡ n
   number-root e =
-      let p = number-group n (omega arith) (std .valid .low) e in
-      omega (arith, p, index-one gs (fam .strict) (entry num n - n) 0 (omega arith) (some n gs fam) (p .2 ∙ root-whole std ∙ sym (first-whole n gs fam)))
+      let p = number-group n (omega arith) (side .std .valid .low) e in
+      let e : nth gs (entry num n - n) ≡ nth gs 0 = p .2 ∙ root-whole (side .std) ∙ sym (first-whole n gs fam) in
+      omega (arith, p, index-one gs (fam .strict) (entry num n - n) 0 (omega arith) (some n gs fam) e)
 
   number-top : entry num n ≤ n
-  number-top = ⊎-elim (λ e. omega (arith, number-root e)) (λ e. let q : entry num n ≡ 0 = t .is n (omega arith) (std .valid .low) ∙ (rw e) in omega arith) (decide (flagged keep n))
+  number-top = ⊎-elim (λ e. omega (arith, number-root e)) (λ e. omega (arith, number-none n (omega arith) (side .std .valid .low) e)) (decide (flagged keep n))
 
-  module _ {i s k : ℕ} (best : Best std num i s k) where
+  module _ {i s k : ℕ} (best : Best (side .std) num i s k) where
     best-has : n ≤ k → has (nth gs (k - n)) s ≡ true
     best-has l =
         let u = best .there in
@@ -82,7 +98,11 @@ module _ {n : ℕ} {gs : List Group} (fam : Family n gs) {r : List ℕ} (std : S
         omega (arith, p .0, best .most (v .0) (v .1) (v .2) (rw (v .4) e) (omega arith))
 
     best-root : s < n → n < i → flagged keep n ≡ true → n ≤ k
-    best-root z j e = omega (arith, number-root e, best .most n (omega arith) (std .valid .low) (rw (root-whole std) (has-whole n s z)) (omega (arith, number-root e)))
+    best-root z j e = omega (
+      arith,
+      number-root e,
+      best .most n (omega arith) (side .std .valid .low) (rw (root-whole (side .std)) (has-whole n s z)) (omega (arith, number-root e)),
+    )
 
 -- ---- both sides
 
@@ -94,20 +114,28 @@ module _ {n : ℕ} {a : List ℕ} {keepA : List Bool} {b : List ℕ} {keepB : Li
   fam = merged-family ok
 
   module _ {numA numB mins : List ℕ} {c : ℕ} (is : Numbered n a keepA b keepB numA numB mins c) where
+    abbrev left : Numbers n gs a keepA numA
+    left = record { std = ok .first; inside = merged-first n a keepA b keepB; table = is .left }
+
+    abbrev right : Numbers n gs b keepB numB
+    right = record { std = ok .second; inside = merged-second n a keepA b keepB; table = is .right }
+
     -- the larger of the two sides' numbers is the last group before i that has s
-    last-larger : {i s x y : ℕ} → s < n → n < i → i ≤ n + length gs → Best (ok .first) numA i s x → Best (ok .second) numB i s y → lastWith s (take (i - n) gs) n rootMark ≡ max x y
-    last-larger {i} {s} {x} {y} z j l p q = last-is n rootMark gs (i - n) (max x y - n) s (omega (arith, p .high, q .high, low)) (omega arith) (here (tri x y)) (λ k u w. not-yes (has (nth gs k) s) (λ e. none k u w e (merged-cases n a keepA b keepB (nth gs k) (in-at gs k (omega arith)))))
+    last-larger : {i s x y : ℕ} → s < n → n < i → i ≤ n + length gs → Best (ok .first) numA i s x → Best (ok .second) numB i s y
+        → lastWith s (take (i - n) gs) n rootMark ≡ max x y
+    last-larger {i} {s} {x} {y} z j l p q = last-is n rootMark gs (i - n) (max x y - n) s (omega (arith, p .high, q .high, low)) (omega arith) (here (tri x y))
+        (λ k u w. not-yes (has (nth gs k) s) (λ e. none k u w e (merged-cases n a keepA b keepB (nth gs k) (in-at gs k (omega arith)))))
         ∙ add-sub-of-le low
       where
         low : n ≤ max x y
-        low = ⊎-elim (λ e. omega (arith, best-root fam (ok .first) keepA (merged-first n a keepA b keepB) (is .left) p z j e)) (λ e. omega (arith, best-root fam (ok .second) keepB (merged-second n a keepA b keepB) (is .right) q z j e))
+        low = ⊎-elim (λ e. omega (arith, best-root fam left p z j e)) (λ e. omega (arith, best-root fam right q z j e))
             (or-cases (flagged keepA n) (flagged keepB n) (ok .top))
 
         first-has : y ≤ x → has (nth gs (max x y - n)) s ≡ true
-        first-has h = rw (max-eq-left h) (best-has fam (ok .first) keepA (merged-first n a keepA b keepB) (is .left) p (omega (arith, low)))
+        first-has h = rw (max-eq-left h) (best-has fam left p (omega (arith, low)))
 
         second-has : x ≤ y → has (nth gs (max x y - n)) s ≡ true
-        second-has h = rw (max-eq-right h) (best-has fam (ok .second) keepB (merged-second n a keepA b keepB) (is .right) q (omega (arith, low)))
+        second-has h = rw (max-eq-right h) (best-has fam right q (omega (arith, low)))
 
         here : Tri x y → has (nth gs (max x y - n)) s ≡ true
         here (less h) = second-has (omega arith)
@@ -115,8 +143,8 @@ module _ {n : ℕ} {a : List ℕ} {keepA : List Bool} {b : List ℕ} {keepB : Li
         here (more h) = first-has (omega arith)
 
         none : (k : ℕ) → max x y - n < k → k < i - n → has (nth gs k) s ≡ true → In (nth gs k) (kept n a keepA) ⊎ In (nth gs k) (kept n b keepB) → ⊥
-        none k u w e (inl m) = omega (arith, low, best-last fam (ok .first) keepA (merged-first n a keepA b keepB) (is .left) p k (omega arith) (omega arith) m e)
-        none k u w e (inr m) = omega (arith, low, best-last fam (ok .second) keepB (merged-second n a keepA b keepB) (is .right) q k (omega arith) (omega arith) m e)
+        none k u w e (inl m) = omega (arith, low, best-last fam left p k (omega arith) (omega arith) m e)
+        none k u w e (inr m) = omega (arith, low, best-last fam right q k (omega arith) (omega arith) m e)
 
     low-below : (i : ℕ) → n ≤ i → i < c → entry mins i < n
     low-below i h k =
@@ -131,17 +159,17 @@ module _ {n : ℕ} {a : List ℕ} {keepA : List Bool} {b : List ℕ} {keepB : Li
         second = ok .second;
         some = omega (arith, is .total, some n gs fam);
         most = omega (arith, is .total, fewer n gs fam);
-        rootA = omega (arith, ra .root, number-top fam (ok .first) keepA (merged-first n a keepA b keepB) (is .left));
-        rootB = omega (arith, rb .root, number-top fam (ok .second) keepB (merged-second n a keepA b keepB) (is .right));
+        rootA = omega (arith, ra .root, number-top fam left);
+        rootB = omega (arith, rb .root, number-top fam right);
         words = is .words;
         sample = low-below;
       }
 
       risesA : Rises (ok .first) numA
-      risesA = number-rises fam (ok .first) keepA (merged-first n a keepA b keepB) (is .left)
+      risesA = number-rises fam left
 
       risesB : Rises (ok .second) numB
-      risesB = number-rises fam (ok .second) keepB (merged-second n a keepA b keepB) (is .right)
+      risesB = number-rises fam right
 
       merged-leaf : (s : ℕ) → s < n → parent (rowOf n gs) s ≡ max (entry upA (parent a s)) (entry upB (parent b s))
       merged-leaf s z =
@@ -150,9 +178,9 @@ module _ {n : ℕ} {a : List ℕ} {keepA : List Bool} {b : List ℕ} {keepB : Li
           let e : n + length gs - n ≡ length gs = omega arith in
           parent-leaf n gs s z ∙ (rw (e, take-length) at (last-larger z (omega (arith, some n gs fam)) (omega arith)
           (best-parent (ok .first) ra risesA s (n + length gs) z
-          (up-below (ok .first) ra risesA (n + length gs) (number-below fam (ok .first) keepA (merged-first n a keepA b keepB) (is .left)) (parent a s) (p .0) (p .1)))
+          (up-below (ok .first) ra risesA (n + length gs) (number-below fam left) (parent a s) (p .0) (p .1)))
           (best-parent (ok .second) rb risesB s (n + length gs) z
-          (up-below (ok .second) rb risesB (n + length gs) (number-below fam (ok .second) keepB (merged-second n a keepA b keepB) (is .right)) (parent b s) (q .0) (q .1)))))
+          (up-below (ok .second) rb risesB (n + length gs) (number-below fam right) (parent b s) (q .0) (q .1)))))
 
       merged-inner : (i : ℕ) → n ≤ i → i < c → parent (rowOf n gs) i ≡ parentOf n a upA b upB mins i
       unfolding lastWith
@@ -179,8 +207,11 @@ module _ {n : ℕ} {a : List ℕ} {keepA : List Bool} {b : List ℕ} {keepB : Li
           d : suc v - 1 ≡ v
           d = omega arith
 
+          larger : ℕ
+          larger = max (entry upA (parent a (suc v - 1))) (entry upB (parent b (suc v - 1)))
+
           go : (ltb c (suc v) ≡ true) ⊎ (ltb c (suc v) ≡ false) → (ltb n (suc v) ≡ true) ⊎ (ltb n (suc v) ≡ false)
-              → cond (ltb c (suc v)) 0 (cond (ltb n (suc v)) (entry parents (suc v - 1)) (max (entry upA (parent a (suc v - 1))) (entry upB (parent b (suc v - 1))))) ≡ parent (rowOf n gs) v
+              → cond (ltb c (suc v)) 0 (cond (ltb n (suc v)) (entry parents (suc v - 1)) larger) ≡ parent (rowOf n gs) v
           go (inl p) q = rw p (sym (filler-row n gs (suc v) (omega (arith, ltb-true c (suc v) p, is .total))))
           go (inr p) (inl q) =
               let h : n ≤ v = omega (arith, ltb-true n (suc v) q) in
@@ -189,5 +220,7 @@ module _ {n : ℕ} {a : List ℕ} {keepA : List Bool} {b : List ℕ} {keepB : Li
           go (inr p) (inr q) = rw (p, q, d) (sym (merged-leaf v (ltb-false n (suc v) q)))
 
       -- THE MERGED ROW: what is written is the row of the merged groups
-      pub merged-row : {parents out : List ℕ} → Tabled (parentOf n a upA b upB mins) n c parents → length out ≡ rowWords n → Tabled (wordOf n a upA b upB parents c) 0 (rowWords n) out → out ≡ rowOf n gs
-      merged-row {parents} {out} t k w = ext-getD 0 out (rowOf n gs) (k ∙ sym (planted-valid n gs fam (ok .first .valid .most) .words)) (λ i h. w .is i (omega arith) (omega arith) ∙ merged-word t i)
+      pub merged-row : {parents out : List ℕ} → Tabled (parentOf n a upA b upB mins) n c parents → length out ≡ rowWords n
+          → Tabled (wordOf n a upA b upB parents c) 0 (rowWords n) out → out ≡ rowOf n gs
+      merged-row {parents} {out} t k w = ext-getD 0 out (rowOf n gs) (k ∙ sym (planted-valid n gs fam (ok .first .valid .most) .words))
+          (λ i h. w .is i (omega arith) (omega arith) ∙ merged-word t i)

@@ -32,7 +32,8 @@ module _ (g : ℕ → Group) (f : ℕ → Bool) where
       later : (v : ℕ) × List·Memᴰ v xs × (f v ≡ true) × (g v ≡ h) → (v : ℕ) × List·Memᴰ v (x ∷ xs) × (f v ≡ true) × (g v ≡ h)
       later t = (t .0, List·Memᴰ·tail (t .1), t .2, t .3)
 
-      go : (b : Bool) → f x ≡ b → In h (map g (cond b (x ∷ filter f xs) (filter f xs))) → (In h (map g (filter f xs)) → (v : ℕ) × List·Memᴰ v xs × (f v ≡ true) × (g v ≡ h))
+      go : (b : Bool) → f x ≡ b → In h (map g (cond b (x ∷ filter f xs) (filter f xs)))
+          → (In h (map g (filter f xs)) → (v : ℕ) × List·Memᴰ v xs × (f v ≡ true) × (g v ≡ h))
           → (v : ℕ) × List·Memᴰ v (x ∷ xs) × (f v ≡ true) × (g v ≡ h)
       go true e k r = ⊎-elim (λ q. (x, List·Memᴰ·head refl, e, sym q)) (λ q. later (r q)) (in-cases h (g x) (map g (filter f xs)) k)
       go false e k r = later (r k)
@@ -51,7 +52,10 @@ module _ (g : ℕ → Group) (f : ℕ → Bool) where
 module _ (n : ℕ) (r : List ℕ) (keep : List Bool) where
   pub in-kept : (x : ℕ) (h : Group) → In h (keptFrom n r keep x) → (v : ℕ) × (x ≤ v) × (v < nodes r) × (flagged keep v ≡ true) × (groupAt n r v ≡ h)
   unfolding keptFrom
-  in-kept x h m = let t = in-picked (groupAt n r) (flagged keep) (range x (nodes r)) h m in let k = in-range x (nodes r) (t .0) (t .1) in (t .0, k .0, k .1, t .2, t .3)
+  in-kept x h m =
+      let t = in-picked (groupAt n r) (flagged keep) (range x (nodes r)) h m in
+      let k = in-range x (nodes r) (t .0) (t .1) in
+      (t .0, k .0, k .1, t .2, t .3)
 
   pub kept-in : (x v : ℕ) → x ≤ v → v < nodes r → flagged keep v ≡ true → In (groupAt n r v) (keptFrom n r keep x)
   unfolding keptFrom
@@ -72,7 +76,8 @@ module _ (n : ℕ) (r : List ℕ) (keep : List Bool) where
   -- nodes that are not kept may be passed over
   pub kept-past : (d x y : ℕ) → x + d ≡ y → y ≤ nodes r → ((u : ℕ) → x ≤ u → u < y → flagged keep u ≡ false) → keptFrom n r keep x ≡ keptFrom n r keep y
   kept-past zero x y e h f = ap (keptFrom n r keep) (omega arith)
-  kept-past (suc d) x y e h f = kept-drop x (omega arith) (f x (omega arith) (omega arith)) ∙ kept-past d (suc x) y (omega arith) h (λ u a b. f u (omega arith) b)
+  kept-past (suc d) x y e h f = kept-drop x (omega arith) (f x (omega arith) (omega arith)) ∙ kept-past d (suc x) y (omega arith) h
+      (λ u a b. f u (omega arith) b)
 
 -- ---- both rows
 
@@ -114,7 +119,8 @@ module _ {n : ℕ} {r : List ℕ} (std : Standard n r) (keep : List Bool) where
   kept-top e = rw (← root-whole std) (kept-in n r keep n n (omega arith) (std .valid .low) e)
 
 module _ {n : ℕ} {a : List ℕ} {keepA : List Bool} {b : List ℕ} {keepB : List Bool} (ok : Mergeable n a keepA b keepB) where
-  either : {P : Group → Type 0} → ((x : Group) → In x (kept n a keepA) → P x) → ((x : Group) → In x (kept n b keepB) → P x) → (x : Group) → In x (merged n a keepA b keepB) → P x
+  either : {P : Group → Type 0} → ((x : Group) → In x (kept n a keepA) → P x) → ((x : Group) → In x (kept n b keepB) → P x) → (x : Group)
+      → In x (merged n a keepA b keepB) → P x
   either f g x m = ⊎-elim (f x) (g x) (merged-cases n a keepA b keepB x m)
 
   pairwise : (x y : Group) → In x (merged n a keepA b keepB) → In y (merged n a keepA b keepB) → Agree x y
@@ -134,7 +140,8 @@ module _ {n : ℕ} {a : List ℕ} {keepA : List Bool} {b : List ℕ} {keepB : Li
     long = either (kept-long (ok .first) keepA) (kept-long (ok .second) keepB);
     big = either (kept-big (ok .first) keepA) (kept-big (ok .second) keepB);
     agree = pairwise;
-    top = ⊎-elim (λ e. merged-first n a keepA b keepB (whole n) (kept-top (ok .first) keepA e)) (λ e. merged-second n a keepA b keepB (whole n) (kept-top (ok .second) keepB e))
+    top = ⊎-elim (λ e. merged-first n a keepA b keepB (whole n) (kept-top (ok .first) keepA e))
+        (λ e. merged-second n a keepA b keepB (whole n) (kept-top (ok .second) keepB e))
         (or-cases (flagged keepA n) (flagged keepB n) (ok .top));
   }
 

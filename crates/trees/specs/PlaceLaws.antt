@@ -45,8 +45,7 @@ module _ (n : ℕ) (r : List ℕ) (ok : Falls n r) where
   all-got d p h k = omega (
     arith,
     grown d (nodes r - 1) p (omega arith) (omega arith) k,
-    ap size
-        (part-full n r ok (nodes r - 1) p k (omega (arith, due-low n r ok p k))),
+    ap size (part-full n r ok (nodes r - 1) p k (omega (arith, due-low n r ok p k))),
   )
 
   -- the node of step d has all its samples by then
@@ -132,8 +131,8 @@ module _ (n : ℕ) (r : List ℕ) (ok : Falls n r) where
 
     -- places are below n
     pub place-low : (s : ℕ) → s < n → start s < n
-    place-low s k = let l : s < nodes r = omega (arith, ok .low) in omega
-        (arith, laid .top, inside (nodes r) n s (root-above n r ok s l) l, size-most n r n, self-sized s k)
+    place-low s k = let l : s < nodes r = omega (arith, ok .low) in
+        omega (arith, laid .top, inside (nodes r) n s (root-above n r ok s l) l, size-most n r n, self-sized s k)
 
     -- P: a sample is in the group of u exactly if its place lies in u's interval
     pub placed : (u s : ℕ) → u < nodes r → s < n → has (groupAt n r u) s ≡ (leb (start u) (start s) && ltb (start s) (start u + sizeAt n r u))
@@ -143,8 +142,8 @@ module _ (n : ℕ) (r : List ℕ) (ok : Falls n r) where
         l = omega (arith, ok .low)
 
         to : has (groupAt n r u) s ≡ true → leb (start u) (start s) && ltb (start s) (start u + sizeAt n r u) ≡ true
-        to e = let i = inside (nodes r) u s (group-has n r u s e .1) l in rw
-            (le-leb (start u) (start s) (i .0), lt-ltb (start s) (start u + sizeAt n r u) (omega (arith, self-sized s k)))
+        to e = let i = inside (nodes r) u s (group-has n r u s e .1) l in
+            rw (le-leb (start u) (start s) (i .0), lt-ltb (start s) (start u + sizeAt n r u) (omega (arith, self-sized s k)))
 
         from : leb (start u) (start s) && ltb (start s) (start u + sizeAt n r u) ≡ true → has (groupAt n r u) s ≡ true
         from e = go (decide (meets (nodes r) r u s)) (decide (meets (nodes r) r s u))
@@ -158,8 +157,8 @@ module _ (n : ℕ) (r : List ℕ) (ok : Falls n r) where
             go : (meets (nodes r) r u s ≡ true) ⊎ (meets (nodes r) r u s ≡ false) → (meets (nodes r) r s u ≡ true) ⊎ (meets (nodes r) r s u ≡ false)
                 → has (groupAt n r u) s ≡ true
             go (inl i) j = in-group n r u s k i
-            go (inr i) (inl j) = let q : u ≡ s = no-leaf-above n r up-ends s u k h j in absurd
-                (true≢false (sym (subst (λ (v : ℕ). Above r u v) q (meets-refl r (nodes r) u)) ∙ i))
+            go (inr i) (inl j) = let q : u ≡ s = no-leaf-above n r up-ends s u k h j in
+                absurd (true≢false (sym (subst (λ (v : ℕ). Above r u v) q (meets-refl r (nodes r) u)) ∙ i))
             go (inr i) (inr j) = absurd (⊎-elim (λ q. omega (arith, self-sized s k, low)) (λ q. omega (arith, high))
                 (beside (nodes r) s u (omega arith) l h j i))
 

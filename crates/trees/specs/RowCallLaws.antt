@@ -75,8 +75,7 @@ module _ (n : ℕ) (r q : List ℕ) where
   unfolding comparing compared
   comparing-given k p = (
     chain-given (compareChecks n r q) (compared n r q) k p (λ e. let z : _≡_ {A = ℕ} 0 1 = cc in omega arith),
-    given-chain
-        (compareChecks n r q) (compared n r q) k p,
+    given-chain (compareChecks n r q) (compared n r q) k p,
   )
 
 -- a verdict whose place has d added

@@ -60,8 +60,7 @@ module _ (n : ℕ) (r : List ℕ) (ok : Falls n r) where
       go (inr k) = let p = ok .down u (omega arith) h in (
         p .0,
         omega arith,
-        omega
-            (arith, turn-inner n (nodes r) u k, turn-inner n (nodes r) (parent r u) (p .0)),
+        omega (arith, turn-inner n (nodes r) u k, turn-inner n (nodes r) (parent r u) (p .0)),
       )
 
   pub not-root : (u : ℕ) → childOf r rootMark u ≡ false → u ≡ n → ⊥
@@ -71,8 +70,7 @@ module _ (n : ℕ) (r : List ℕ) (ok : Falls n r) where
   is-root u h e = ⊎-elim (λ q. eqb-true u n q) (λ q. absurd (omega (
     arith,
     parent-in u h (eqb-false u n q),
-    eqb-true
-        (parent r u) rootMark e,
+    eqb-true (parent r u) rootMark e,
     ok .high,
     ok .most,
   ))) (decide (eqb u n))
