@@ -18,13 +18,13 @@ use Rattle.trees.specs.CheckLaws.{not-outside}
 use Rattle.trees.specs.ValidLaws.{judged-valid, valid-row}
 use Rattle.trees.specs.NumberingLaws.{renumbered-standard, renumbered-groups, renumbered-same}
 use Rattle.runs.specs.Runs.{find, isSome, present, insertRun}
-use Rattle.runs.specs.Words.{samples, inForce, runs, encode, mostIdentifier, capacity}
+use Rattle.runs.specs.Words.{samples, inForce, runs, encode, mostIdentifier, capacity, full}
 use Rattle.runs.specs.Formed.{wellFormed, Stored, Formed}
 use Rattle.trees.specs.Outcomes.{Outcome}
 use Rattle.runs.specs.Calls.{check2, check4, check11, check12, addFormedChecks, addChecks, stores, runsWith, added}
 use Rattle.runs.specs.Histories.{SameGroups}
 use Rattle.runs.specs.RunLaws.{Absent, find-insert, insert-rising, length-insert, insert-member, absent-none}
-use Rattle.runs.specs.WordLaws.{length-runs}
+use Rattle.runs.specs.WordLaws.{room-exactly, length-runs}
 use Rattle.runs.specs.FormedLaws.{formed-to, formed-from, Room, room-runs}
 use Rattle.runs.specs.CallLaws.{line-pass, passed-append, passed-split, Kept, room-kept, outcome-exactly}
 
@@ -44,9 +44,6 @@ module _ (w : List ℕ) (i : ℕ) (row : List ℕ) where
   abbrev n : ℕ
   n = samples w
 
-  abbrev cap : ℕ
-  cap = capacity (length w) n
-
   abbrev last : List Check
   last = check11 w i ∷ check12 w ∷ []
 
@@ -59,13 +56,12 @@ module _ (w : List ℕ) (i : ℕ) (row : List ℕ) where
       let f : Formed w = formed-to w (not-false _ (line-passes 2 (not (wellFormed w)) (h .0))) in
       let s = passed-split (rowChecks n row) last (h .1 .1 .1) in
       let z : i ≡ 0 → ⊥ = eqb-false i 0 (line-passes 4 (eqb i 0) (h .1 .1 .0)) in
-      let d : inForce w ≡ cap → ⊥ = eqb-false (inForce w) cap (line-passes 12 (eqb (inForce w) cap) (s .1 .1 .0)) in
       record {
         formed = f;
         valid = judged-valid n row (judged-passed n row (first-pass (f .least) (f .most), (h .1 .0, s .0)));
         named = omega arith;
         absent = absent-none i (runs w) (line-passes 11 (present i (runs w)) (s .1 .0));
-        room = omega (arith, f .fits);
+        room = room-exactly w (f .fits) .0 (line-passes 12 (full w) (s .1 .1 .0));
       }
 
   adds-from : Adds w i row → Passed (addChecks w i row)
@@ -78,7 +74,7 @@ module _ (w : List ℕ) (i : ℕ) (row : List ℕ) where
         line-pass 4 (eqb i 0) (ne-eqb i 0 (λ e. omega (arith, a .named))),
         passed-append (rowChecks n row) last (chain-passed (rowChecks n row) (valid-row n row (a .valid) accepted)) (
           line-pass 11 (present i (runs w)) (ap isSome (a .absent)),
-          (line-pass 12 (eqb (inForce w) cap) (ne-eqb (inForce w) cap (λ e. omega (arith, a .room))), tt),
+          (line-pass 12 (full w) (room-exactly w (a .formed .fits) .1 (a .room)), tt),
         ),
       ),
     ),

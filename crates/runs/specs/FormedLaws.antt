@@ -1,17 +1,20 @@
 -- A study is well formed exactly if its words are those of its runs, and these are in order, in standard numbering and few enough. Assumes nothing.
-use Prim.Native.Nat.{ℕ, zero, suc, _-_, _≤_}
+use Prim.Native.Nat.{ℕ, zero, suc, _+_, _-_, _≤_}
 use mathlib.Core.Path.{_≡_, refl, sym, ap, _∙_}
 use mathlib.Core.Logic.{_↔_}
 use mathlib.Core.List.{List, [], _∷_, _++_, List·Memᴰ}
 use mathlib.Core.Bool.{Bool, true, _&&_, not, false≢true}
+use native.Mathlib.Nat.{add-sub-of-le}
 use lib.Dec.{eqb, leb}
-use lib.ListN.{length, take, drop, length-drop}
+use lib.ListN.{length, getD, take, drop, length-drop}
+use lib.Seq.{getD-drop}
 use borrow.Author.Tests.{eqb-true, eq-eqb, leb-true, le-leb, not-true}
 use Rattle.trees.specs.Lists.{zeros}
 use Rattle.trees.specs.Checks.{fewestSamples, mostSamples, outside}
 use Rattle.trees.specs.Valid.{standard}
 use Rattle.trees.specs.Reporting.{Run}
 use Rattle.trees.specs.BoolLaws.{and-l, and-r, and-both}
+use Rattle.trees.specs.ListLaws.{getD-zeros}
 use Rattle.trees.specs.CheckLaws.{outside-not, not-outside}
 use Rattle.trees.specs.StandardLaws.{standard-to, standard-from}
 use Rattle.trees.specs.ReportingLaws.{Runs}
@@ -44,6 +47,13 @@ pub zeros-from : (m : ℕ) → every (λ x. eqb x 0) (zeros m) ≡ true
 unfolding every
 zeros-from zero = refl
 zeros-from (suc m) = zeros-from m
+
+-- "All later words are 0."
+pub zero-from : (p : ℕ) (w : List ℕ) → zeroFrom p w ≡ true → (i : ℕ) → p ≤ i → getD w i 0 ≡ 0
+zero-from p w e i h =
+    let q : p + (i - p) ≡ i = add-sub-of-le h in
+    let z : drop p w ≡ zeros (length (drop p w)) = zeros-to (drop p w) e in
+    ap (λ (j : ℕ). getD w j 0) (sym q) ∙ sym (getD-drop p w (i - p) 0) ∙ ap (λ (ws : List ℕ). getD ws (i - p) 0) z ∙ getD-zeros (length (drop p w)) (i - p)
 
 encode-zero : (len n : ℕ) (rs : List Run) → Wide n rs → zeroFrom (slotStart n (length rs)) (encode len n rs) ≡ true
 encode-zero len n rs h = ap (every (λ x. eqb x 0)) (rest-encode len n rs h) ∙ zeros-from (len - length (header n (length rs) ++ slots rs))

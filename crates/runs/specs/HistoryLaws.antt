@@ -11,7 +11,7 @@ use borrow.Author.Tests.{leb-true}
 use Rattle.trees.specs.Checks.{accepted}
 use Rattle.trees.specs.Valid.{Valid, isAccepted}
 use Rattle.trees.specs.Numbering.{renumbered}
-use Rattle.trees.specs.BoolLaws.{and-l, and-r, decide}
+use Rattle.trees.specs.BoolLaws.{and-l, and-r, and-false, decide}
 use Rattle.trees.specs.ValidLaws.{accepted-to}
 use Rattle.trees.specs.NumberingLaws.{renumbered-groups}
 use Rattle.runs.specs.Runs.{every, find, isSome, present}
@@ -33,6 +33,13 @@ refused-words : (w : List ℕ) (c : Call) → isAccepted (called w c .verdict) �
 unfolding added withdrawn
 refused-words w (add i row) e = rw e
 refused-words w (withdraw i) e = rw e
+
+-- a refused call is never the last accepted one: it counts as if it had not been made
+pub last-refused : (i : ℕ) (sofar : Option Call) (w : List ℕ) (c : Call) (h : List Call) → isAccepted (called w c .verdict) ≡ false
+    → lastFrom i sofar w (c ∷ h) ≡ lastFrom i sofar w h
+unfolding lastFrom
+last-refused i sofar w c h e =
+    ap (λ (b : Bool). lastFrom i (cond (eqb i (names c) && b) (some c) sofar) (called w c .words) h) e ∙ (rw (and-false, refused-words w c e))
 
 module _ (len n : ℕ) (w : List ℕ) (k : Kept len n w) where
   accepted-kept : (c : Call) → Word c → called w c .verdict ≡ accepted → Kept len n (called w c .words)

@@ -7,10 +7,9 @@ use native.Mathlib.Nat.{mul-le-mul-right}
 use native.Mathlib.Numerals.{add-one}
 use native.Mathlib.Omega.{arith}
 use lib.ListN.{length}
-use borrow.Author.Tests.{eqb-false}
-use Rattle.runs.specs.Words.{samples, inForce, headerWords, slotWords, slotStart, mostRuns, capacity, full}
+use Rattle.runs.specs.Words.{samples, inForce, headerWords, slotWords, slotStart, mostRuns, full}
 use Rattle.runs.specs.Formed.{Formed}
-use Rattle.runs.specs.WordLaws.{capacity-most, capacity-room, slot-next}
+use Rattle.runs.specs.WordLaws.{capacity-most, capacity-room, room-exactly, slot-next}
 
 -- a slot ends within the words that have those behind it
 pub slot-within : (n i k len : ℕ) → i < k → slotStart n k ≤ len → slotStart n i + slotWords n ≤ len
@@ -40,8 +39,7 @@ module _ (w : List ℕ) (f : Formed w) where
   -- where it is not full, for one slot more
   pub next-fits : full w ≡ false → (inForce w < mostRuns) × (slotStart (samples w) (inForce w) + slotWords (samples w) ≤ length w)
   next-fits e =
-      let d : inForce w ≡ capacity (length w) (samples w) → ⊥ = eqb-false (inForce w) (capacity (length w) (samples w)) e in
-      let c : inForce w < capacity (length w) (samples w) = omega (arith, f .fits) in (
+      let c = room-exactly w (f .fits) .0 e in (
         omega (arith, capacity-most (length w) (samples w)),
         omega (arith, slot-next (samples w) (inForce w), capacity-room (length w) (samples w) (suc (inForce w)) (f .one) c),
       )

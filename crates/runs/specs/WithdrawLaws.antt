@@ -15,11 +15,11 @@ use Rattle.trees.specs.Reporting.{Run}
 use Rattle.trees.specs.ChainLaws.{chain-go, Passed, passed-chain, chain-passed, isRising, numbers, Exactly, exactly-at, line-passes}
 use Rattle.trees.specs.ValidLaws.{judged-valid}
 use Rattle.runs.specs.Runs.{find, isSome, present, deleteRun}
-use Rattle.runs.specs.Words.{samples, inForce, runs, encode, capacity}
+use Rattle.runs.specs.Words.{samples, inForce, runs, encode, capacity, full}
 use Rattle.runs.specs.Formed.{wellFormed, Formed}
 use Rattle.runs.specs.Calls.{check2, check12, addFormedChecks, addChecks, added, withdrawFormedChecks, withdrawChecks, withdrawn}
 use Rattle.runs.specs.RunLaws.{Absent, find-delete, delete-rising, length-delete, delete-member, present-some}
-use Rattle.runs.specs.WordLaws.{length-runs}
+use Rattle.runs.specs.WordLaws.{room-exactly, length-runs}
 use Rattle.runs.specs.FormedLaws.{formed-to, formed-from, Room, room-runs}
 use Rattle.runs.specs.CallLaws.{line-pass, Kept, room-kept, outcome-exactly}
 use Rattle.runs.specs.AddLaws.{added-accepts, added-rising, added-exactly}
@@ -117,10 +117,9 @@ module _ (w : List ℕ) (i : ℕ) (e : withdrawn w i .verdict ≡ accepted) wher
   pub withdrawn-frees : (j : ℕ) (row : List ℕ) (p : ℕ) → added (withdrawn w i .words) j row .verdict ≡ refused 12 p → ⊥
   withdrawn-frees j row p q =
       let v : List ℕ = withdrawn w i .words in
-      let c : ℕ = capacity (length v) (samples v) in
       let x = added-exactly v j row 12 p .0 q in
       let f : check12 v .fault ≡ at p = exactly-at (addChecks v j row) 12 p (added-rising v j row) x (check12 v) (listed12 v j row) refl in
-      let g : check12 v .fault ≡ nowhere = line-pass 12 (eqb (inForce v) c) (ne-eqb (inForce v) c (λ z. omega (arith, frees v refl))) in
+      let g : check12 v .fault ≡ nowhere = line-pass 12 (full v) (room-exactly v (omega (arith, frees v refl)) .1 (frees v refl)) in
       let z : _≡_ {A = ℕ} 0 1 = cc (sym f ∙ g) in
       omega arith
 

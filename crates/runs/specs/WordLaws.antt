@@ -1,17 +1,20 @@
 -- The words of a study and its runs: what is read off what was written, lengths, and capacity. Assumes nothing.
 use Prim.Native.Nat.{ℕ, zero, suc, _+_, _-_, _*_, _/_, _≤_, _<_}
 use mathlib.Core.Path.{_≡_, refl, sym, ap, _∙_}
+use mathlib.Core.Logic.{_↔_, ⊎-elim}
 use mathlib.Core.List.{List, [], _∷_, _++_, append-assoc, List·Memᴰ, List·Memᴰ·head, List·Memᴰ·tail}
-use native.Mathlib.Nat.{le-of-suc-le-suc, add-zero, add-suc, suc-add, zero-add, zero-mul, suc-mul, mul-le-mul-right, le-div-iff-mul-le, zero-div}
+use mathlib.Core.Bool.{true, false, true≢false}
+use native.Mathlib.Nat.{le-of-suc-le-suc, eq-or-lt-of-le, add-zero, add-suc, suc-add, zero-add, zero-mul, suc-mul, mul-le-mul-right, le-div-iff-mul-le, zero-div}
 use native.Mathlib.Numerals.{add-one}
 use native.Mathlib.Omega.{arith}
 use lib.ListN.{length, getD, take, drop, length-append, length-drop, take-append-drop}
 use lib.Seq.{take-at, drop-append-add, drop-cons, drop-drop, drop-length}
+use borrow.Author.Tests.{eq-eqb, ne-eqb}
 use Rattle.trees.specs.Lists.{tabulate, zeros}
 use Rattle.trees.specs.Checks.{rowWords}
 use Rattle.trees.specs.Reporting.{Run}
 use Rattle.trees.specs.ListLaws.{length-tabulate, tabulate-eq, length-zeros}
-use Rattle.runs.specs.Words.{header, samples, inForce, headerWords, slotWords, slot, readRun, slots, slotStart, runAt, runs, encode, mostRuns, capacity}
+use Rattle.runs.specs.Words.{header, samples, inForce, headerWords, slotWords, slot, readRun, slots, slotStart, runAt, runs, encode, mostRuns, capacity, full}
 
 -- each row has 2n words
 abbrev pub Wide : ℕ → List Run → Type 0
@@ -43,6 +46,17 @@ capacity-room len n k h l =
     let v : 1 * slotWords n ≤ len - headerWords = le-div-iff-mul-le p .0 q in
     let x : k * slotWords n ≤ len - headerWords = le-div-iff-mul-le p .0 u in
     omega arith
+
+-- "k equals capacity"
+pub full-at : (w : List ℕ) → inForce w ≡ capacity (length w) (samples w) → full w ≡ true
+full-at w e = eq-eqb (inForce w) (capacity (length w) (samples w)) e
+
+-- where k is not above it, a study is not full exactly if it has room for one run more
+pub room-exactly : (w : List ℕ) → inForce w ≤ capacity (length w) (samples w) → (full w ≡ false) ↔ (inForce w < capacity (length w) (samples w))
+room-exactly w h = (
+  λ e. ⊎-elim (λ q. absurd (true≢false (sym (full-at w q) ∙ e))) (λ l. l) (eq-or-lt-of-le h),
+  λ l. ne-eqb (inForce w) (capacity (length w) (samples w)) (λ q. omega arith),
+)
 
 -- ---- slots
 

@@ -3,7 +3,7 @@ use Prim.Native.Nat.{ℕ, zero, suc, _+_, _-_, _≤_, _<_, zero-le}
 use mathlib.Core.Path.{_≡_, refl, sym, ap, _∙_}
 use mathlib.Core.Logic.{⊎-elim}
 use mathlib.Core.List.{List}
-use mathlib.Core.Bool.{Bool, true, false, _&&_, _||_, not, true≢false}
+use mathlib.Core.Bool.{true, false, _&&_, _||_, not, true≢false}
 use native.Mathlib.Nat.{eq-or-lt-of-le}
 use native.Mathlib.Omega.{arith}
 use lib.Dec.{eqb, ltb, leb}
@@ -19,7 +19,7 @@ use Rattle.trees.specs.Falls.{Falls, falling}
 use Rattle.trees.specs.Tables.{entry, leastOf, own, Most, sizeAt, leastAt, rankOf, rankIn, rankAt}
 use Rattle.trees.specs.Passes.{Ranked}
 use Rattle.trees.specs.Linear.{spans, littered, fillerZero, falters, rising, ranked, linear}
-use Rattle.trees.specs.BoolLaws.{and-l, and-r, and-both, true-eq}
+use Rattle.trees.specs.BoolLaws.{and-l, and-r, and-both, and-false, true-eq}
 use Rattle.trees.specs.ListLaws.{range-in, count-two}
 use Rattle.trees.specs.GroupLaws.{Within, lowest-has, extra, within-size, within-eq, single-small}
 use Rattle.trees.specs.OrderLaws.{before-falling}
@@ -195,11 +195,7 @@ module _ (n : ℕ) (r : List ℕ) (most : n ≤ mostSamples) (words : length r �
 
   pub falling-decides : falling n r ≡ false → false ≡ standard n r
   unfolding linear
-  falling-decides e = sym (no (spans n (nodes r))) ∙ (rw e at linear-standard)
-    where
-      no : (a : Bool) → a && false ≡ false
-      no true = refl
-      no false = refl
+  falling-decides e = sym (and-false (spans n (nodes r))) ∙ (rw e at linear-standard)
 
   pub rest-decides : spans n (nodes r) ≡ true → falling n r ≡ true → fillerZero n r && ranked n r ≡ standard n r
   unfolding linear
