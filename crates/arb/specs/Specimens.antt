@@ -8,6 +8,7 @@ use Rattle.trees.specs.Checks.{Verdict, accepted, refused, counted, rowWords, j
 use Rattle.trees.specs.Numbering.{renumbered}
 use Rattle.trees.specs.Comparing.{compared}
 use Rattle.trees.specs.Reporting.{Run, majority, agreed, supports}
+use Rattle.trees.specs.Case.{row1, row2, row3, agreedRow, supportRow}
 
 pub data Specimen : Type 0 where
   judges : ℕ → List ℕ → Verdict → Specimen
@@ -33,16 +34,6 @@ AllSay (s ∷ ss) = Says s × AllSay ss
 
 abbrev pub run : ℕ → List ℕ → Run
 run i r = record { identifier = i; row = r }
-
--- the three runs of the listing program's case
-abbrev pub row1 : List ℕ
-row1 = 8 ∷ 7 ∷ 7 ∷ 6 ∷ 5 ∷ 5 ∷ rootMark ∷ 5 ∷ 6 ∷ 0 ∷ []
-
-abbrev pub row2 : List ℕ
-row2 = 8 ∷ 6 ∷ 6 ∷ 6 ∷ 7 ∷ 7 ∷ rootMark ∷ 5 ∷ 5 ∷ 0 ∷ []
-
-abbrev pub row3 : List ℕ
-row3 = 9 ∷ 7 ∷ 7 ∷ 5 ∷ 8 ∷ 8 ∷ rootMark ∷ 5 ∷ 6 ∷ 6 ∷ []
 
 -- three samples, with the group {0,1}, and with the group {0,2}
 abbrev pub row01 : List ℕ
@@ -75,7 +66,7 @@ specimens =
     ∷ nodesGive 3 3 (refused 5 0)
     ∷ nodesGive 3 6 (refused 5 0)
     -- "The three runs above: agreed row 9 7 7 6 8 8 65535 5 6 5, support row 3 3 3 3 3 3 3 2 2 2."
-    ∷ reports 5 (run 1 row1 ∷ run 2 row2 ∷ run 3 row3 ∷ []) (9 ∷ 7 ∷ 7 ∷ 6 ∷ 8 ∷ 8 ∷ rootMark ∷ 5 ∷ 6 ∷ 5 ∷ []) (3 ∷ 3 ∷ 3 ∷ 3 ∷ 3 ∷ 3 ∷ 3 ∷ 2 ∷ 2 ∷ 2 ∷ [])
+    ∷ reports 5 (run 1 row1 ∷ run 2 row2 ∷ run 3 row3 ∷ []) agreedRow supportRow
     -- "n=3, two runs holding {0,1} and {0,2}: agreed row 4 3 3 3 65535 0, support row 2 2 2 2 2 0."
     ∷ reports 3 (run 1 row01 ∷ run 2 row02 ∷ []) (4 ∷ 3 ∷ 3 ∷ 3 ∷ rootMark ∷ 0 ∷ []) (2 ∷ 2 ∷ 2 ∷ 2 ∷ 2 ∷ 0 ∷ [])
     -- "Comparing runs 1 and 2: 7 in both, 1, 1."

@@ -11,11 +11,11 @@ use Rattle.trees.specs.Numbering.{rowOf}
 use Rattle.trees.specs.Tables.{Tabled}
 use Rattle.trees.specs.Reporting.{Run, majority, agreed, references}
 use Rattle.trees.specs.Merging.{merged, Mergeable}
-use Rattle.trees.specs.ReportingLaws.{Sound, majority-sound}
+use Rattle.trees.specs.ReportingLaws.{Sound}
 use Rattle.trees.specs.CountingLaws.{so-far-start, majority-so-far, Passing}
 use Rattle.runs.specs.Words.{runs, runAt}
 use Rattle.count.specs.Studies.{Study, rowAt}
-use Rattle.count.specs.StudyLaws.{study-most, study-length, study-run, study-all, study-standard}
+use Rattle.count.specs.StudyLaws.{study-most, study-length, study-run, study-all, study-some, study-sound, study-standard}
 use Rattle.count.specs.Holders.{holdersAt, Marked}
 use Rattle.count.specs.HolderLaws.{marked-majority}
 use Rattle.count.specs.Plain.{bareRow, all, accepted}
@@ -26,10 +26,10 @@ module _ (w : List ℕ) (n k : ℕ) (study : Study w n k) (some : 0 < k) where
   ok = study-all w n k study
 
   one : 0 < length (runs w)
-  one = rw (study-length w n k study) some
+  one = study-some w n k study some
 
   sound : Sound majority n (runs w)
-  sound = majority-sound n (runs w) (λ run m. ok run m .valid) one
+  sound = study-sound w n k study some
 
   pub accepted-standard : (i : ℕ) → Standard n (accepted n w i)
   accepted-standard i = so-far-standard majority n (runs w) ok one sound (study-most w n k study) i

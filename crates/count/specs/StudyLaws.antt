@@ -7,8 +7,9 @@ use native.Mathlib.Omega.{arith}
 use lib.ListN.{length, getD}
 use Rattle.trees.specs.Checks.{fewestSamples, mostSamples}
 use Rattle.trees.specs.Valid.{Standard}
-use Rattle.trees.specs.Reporting.{Run}
+use Rattle.trees.specs.Reporting.{Run, majority}
 use Rattle.trees.specs.ListLaws.{getD-tabulate}
+use Rattle.trees.specs.ReportingLaws.{Runs, Sound, majority-sound}
 use Rattle.runs.specs.Words.{samples, inForce, slotStart, slotWords, runAt, runs, mostRuns}
 use Rattle.runs.specs.WordLaws.{length-runs, member-at}
 use Rattle.runs.specs.SlotLaws.{slot-within, formed-fits, formed-few}
@@ -37,6 +38,16 @@ module _ (w : List ℕ) (n k : ℕ) (study : Study w n k) where
 
   pub study-all : (run : Run) → List·Memᴰ run (runs w) → Standard n (run .row)
   study-all run m = rw (study .over) (study .formed .stored run m .standard)
+
+  pub study-valid : Runs n (runs w)
+  study-valid run m = study-all run m .valid
+
+  -- where it has a run, what the majority shows is a tree
+  pub study-some : 0 < k → 0 < length (runs w)
+  study-some h = rw study-length h
+
+  pub study-sound : 0 < k → Sound majority n (runs w)
+  study-sound h = majority-sound n (runs w) study-valid (study-some h)
 
   pub study-standard : (j : ℕ) → j < k → Standard n (rowAt n w j)
   study-standard j h = let d : Run = runAt n w j in

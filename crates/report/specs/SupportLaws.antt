@@ -18,10 +18,10 @@ use Rattle.trees.specs.BoolLaws.{decide}
 use Rattle.trees.specs.ListLaws.{count-all}
 use Rattle.trees.specs.RowLaws.{leaf-group, valid-rooted}
 use Rattle.trees.specs.NumberingLaws.{row-tree}
-use Rattle.trees.specs.ReportingLaws.{Runs, Sound, total-length, majority-sound, majority-standard, supports-length, supports-first, supports-node, supports-filler}
+use Rattle.trees.specs.ReportingLaws.{Runs, Sound, total-length, majority-standard, supports-length, supports-first, supports-node, supports-filler}
 use Rattle.runs.specs.Words.{runs}
 use Rattle.count.specs.Studies.{Study}
-use Rattle.count.specs.StudyLaws.{study-length, study-all}
+use Rattle.count.specs.StudyLaws.{study-length, study-valid, study-some, study-sound}
 use Rattle.count.specs.Holders.{holdersAt}
 use Rattle.count.specs.TakingLaws.{tabled-words}
 use Rattle.report.specs.Supports.{supportWord}
@@ -33,13 +33,13 @@ support-all n rs g f = count-all (λ run. holds n g (run .row)) rs f
 
 module _ (w : List ℕ) (n k : ℕ) (study : Study w n k) (some : 0 < k) where
   ok : Runs n (runs w)
-  ok run m = study-all w n k study run m .valid
+  ok = study-valid w n k study
 
   one : 0 < length (runs w)
-  one = rw (study-length w n k study) some
+  one = study-some w n k study some
 
   sound : Sound majority n (runs w)
-  sound = majority-sound n (runs w) ok one
+  sound = study-sound w n k study some
 
   pub agreed-row : Standard n (agreed majority n (runs w))
   agreed-row = majority-standard n (runs w) ok one

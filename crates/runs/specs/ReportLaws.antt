@@ -14,20 +14,15 @@ use Rattle.trees.specs.Rows.{nodes, groupAt, groups, holds}
 use Rattle.trees.specs.Checks.{Verdict, accepted, refused, rowWords}
 use Rattle.trees.specs.Valid.{Standard, isAccepted}
 use Rattle.trees.specs.Reporting.{Run, Rule, majority, support, agreed, supports}
-use Rattle.trees.specs.ListLaws.{length-tabulate}
 use Rattle.trees.specs.ChainLaws.{isRising, Exactly, refused-exactly, chain-passed, line-passes}
 use Rattle.trees.specs.NumberingLaws.{standard-unique}
 use Rattle.trees.specs.ReportingLaws.{Runs, Sound, total-length, majority-sound, majority-standard, majority-groups}
 use Rattle.trees.specs.ReportingLaws.{majority-supports, supports-length, supports-first, supports-node, supports-filler}
-use Rattle.runs.specs.Words.{samples, inForce, runs, runAt}
+use Rattle.runs.specs.Words.{samples, inForce, runs}
 use Rattle.runs.specs.Formed.{wellFormed, Formed}
+use Rattle.runs.specs.WordLaws.{length-runs}
 use Rattle.runs.specs.FormedLaws.{formed-to}
 use Rattle.runs.specs.Reports.{reportFormedChecks, reportChecks, reported}
-
--- as many runs are read off as the header says
-pub length-runs : (w : List ℕ) → length (runs w) ≡ inForce w
-unfolding runs
-length-runs w = length-tabulate (inForce w) (runAt (samples w) w) 0
 
 module _ (rule : Rule) (w a s : List ℕ) where
   -- DEMAND 1: a number is given exactly when its line applies and no line of a smaller number does

@@ -164,6 +164,7 @@ length-encode len n rs h l =
 
 -- ---- what is read is written
 
+-- as many runs are read off as the header says
 pub length-runs : (w : List ℕ) → length (runs w) ≡ inForce w
 unfolding runs
 length-runs w = length-tabulate (inForce w) (runAt (samples w) w) 0

@@ -8,6 +8,7 @@ pub mod Comparing
 pub mod Reporting
 pub mod Outcomes
 pub mod RowCalls
+pub mod Case
 pub mod BoolLaws
 pub mod ListLaws
 pub mod ChainLaws

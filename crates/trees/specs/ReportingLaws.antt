@@ -107,11 +107,15 @@ module _ (rule : Rule) (n : ℕ) (rs : List Run) (ok : Runs n rs) (some : 0 < le
 
   -- ---- the support row, word by word
 
-  words : supports rule n rs ≡ total rs ∷ (tabulate (nodes (agreed rule n rs)) (λ v. support n rs (groupAt n (agreed rule n rs) v)) 0 ++ zeros
-      (rowWords n - 1 - nodes (agreed rule n rs)))
+  abbrev m : ℕ
+  m = nodes (agreed rule n rs)
+
+  abbrev at-node : ℕ → ℕ
+  at-node v = support n rs (groupAt n (agreed rule n rs) v)
+
+  words : supports rule n rs ≡ total rs ∷ (tabulate m at-node 0 ++ zeros (rowWords n - 1 - m))
   unfolding supports groups
-  words = ap (λ (ws : List ℕ). total rs ∷ (ws ++ zeros (rowWords n - 1 - nodes (agreed rule n rs))))
-      (map-tabulate (support n rs) (nodes (agreed rule n rs)) (groupAt n (agreed rule n rs)) 0)
+  words = ap (λ (ws : List ℕ). total rs ∷ (ws ++ zeros (rowWords n - 1 - m))) (map-tabulate (support n rs) m (groupAt n (agreed rule n rs)) 0)
 
   pub supports-length : length (supports rule n rs) ≡ rowWords n
   supports-length = ap length words ∙ simp (length-append, length-tabulate, length-zeros) (omega (arith, agreed-standard .valid .high))
@@ -123,27 +127,16 @@ module _ (rule : Rule) (n : ℕ) (rs : List Run) (ok : Runs n rs) (some : 0 < le
   -- "word 1+v is the number of runs holding the group of node v"
   pub supports-node : (v : ℕ) → v < nodes (agreed rule n rs) → getD (supports rule n rs) (suc v) 0 ≡ support n rs (groupAt n (agreed rule n rs) v)
   supports-node v h = ap (λ (ws : List ℕ). getD ws (suc v) 0) words
-      ∙ List·getD-append (tabulate m f 0) (zeros (rowWords n - 1 - m)) 0 v (rw length-tabulate h) ∙ getD-tabulate m f 0 v 0 h ∙ ap f (zero-add v)
-    where
-      m : ℕ
-      m = nodes (agreed rule n rs)
-
-      f : ℕ → ℕ
-      f u = support n rs (groupAt n (agreed rule n rs) u)
+      ∙ List·getD-append (tabulate m at-node 0) (zeros (rowWords n - 1 - m)) 0 v (rw length-tabulate h) ∙ getD-tabulate m at-node 0 v 0 h
+      ∙ ap at-node (zero-add v)
 
   -- "filler is 0"
   pub supports-filler : (w : ℕ) → nodes (agreed rule n rs) < w → getD (supports rule n rs) w 0 ≡ 0
   supports-filler zero h = absurd (omega arith)
   supports-filler (suc w) h =
-      let e : w ≡ length (tabulate m f 0) + (w - m) = (rw length-tabulate (omega arith)) in
-      ap (λ (ws : List ℕ). getD ws (suc w) 0) words ∙ ap (λ (i : ℕ). getD (tabulate m f 0 ++ zeros (rowWords n - 1 - m)) i 0) e
-      ∙ getD-append-add (tabulate m f 0) (zeros (rowWords n - 1 - m)) (w - m) 0 ∙ getD-zeros (rowWords n - 1 - m) (w - m)
-    where
-      m : ℕ
-      m = nodes (agreed rule n rs)
-
-      f : ℕ → ℕ
-      f u = support n rs (groupAt n (agreed rule n rs) u)
+      let e : w ≡ length (tabulate m at-node 0) + (w - m) = (rw length-tabulate (omega arith)) in
+      ap (λ (ws : List ℕ). getD ws (suc w) 0) words ∙ ap (λ (i : ℕ). getD (tabulate m at-node 0 ++ zeros (rowWords n - 1 - m)) i 0) e
+      ∙ getD-append-add (tabulate m at-node 0) (zeros (rowWords n - 1 - m)) (w - m) 0 ∙ getD-zeros (rowWords n - 1 - m) (w - m)
 
 -- ---- the majority rule
 
