@@ -36,6 +36,7 @@ check12 w = line 12 (full w)
 abbrev pub check13 : List ℕ → ℕ → Check
 check13 w i = line 13 (not (present i (runs w)))
 
+-- the checks of opening
 unfoldable pub openChecks : ℕ → List ℕ → List Check
 openChecks n w = check1 n ∷ check3Open n w ∷ []
 
@@ -54,10 +55,11 @@ addChecks w i row = check2 w ∷ addFormedChecks w i row
 abbrev pub stores : ℕ → ℕ → List ℕ → Run
 stores n i row = record { identifier = i; row = renumbered n row }
 
--- the runs in force after an accepted add
+-- the runs in force after an accepted add: "Slots stand in rising order of identifier."
 abbrev pub runsWith : List ℕ → ℕ → List ℕ → List Run
 runsWith w i row = insertRun (stores (samples w) i row) (runs w)
 
+-- what adding answers, and the study's words after it
 unfoldable pub added : List ℕ → ℕ → List ℕ → Outcome
 added w i row = outcome (addChecks w i row) w (encode (length w) (samples w) (runsWith w i row))
 
@@ -68,5 +70,6 @@ withdrawFormedChecks w i = check4 i ∷ check13 w i ∷ []
 unfoldable pub withdrawChecks : List ℕ → ℕ → List Check
 withdrawChecks w i = check2 w ∷ withdrawFormedChecks w i
 
+-- what withdrawing answers, and the study's words after it: "All later words are 0."
 unfoldable pub withdrawn : List ℕ → ℕ → Outcome
 withdrawn w i = outcome (withdrawChecks w i) w (encode (length w) (samples w) (deleteRun i (runs w)))

@@ -11,6 +11,7 @@ use Rattle.trees.specs.Reporting.{Run}
 use Rattle.runs.specs.Runs.{every, rising}
 use Rattle.runs.specs.Words.{header, samples, inForce, headerWords, slotStart, runs, encode, mostIdentifier, capacity}
 
+-- whether two lists of words are equal
 unfoldable pub sameWords : List ℕ → List ℕ → Bool
 sameWords [] [] = true
 sameWords [] (y ∷ ys) = false
@@ -21,7 +22,7 @@ sameWords (x ∷ xs) (y ∷ ys) = eqb x y && sameWords xs ys
 abbrev pub headed : List ℕ → Bool
 headed w = sameWords (take headerWords w) (header (samples w) (inForce w))
 
--- "n, k .. are within the sizes above", "capacity is at least 1 and at least k"
+-- "n, k .. are within the sizes above", "capacity is at least 1 and at least k": so k is at most 1,024 (`capacity-most`)
 abbrev pub sized : List ℕ → Bool
 sized w = not (outside fewestSamples mostSamples (samples w)) && leb 1 (capacity (length w) (samples w)) && leb (inForce w) (capacity (length w) (samples w))
 

@@ -29,6 +29,7 @@ names (withdraw i) = i
 abbrev pub identified : List Call → Bool
 identified h = every (λ c. leb (names c) mostIdentifier) h
 
+-- what a call answers, and the words it leaves
 abbrev pub called : List ℕ → Call → Outcome
 called w (add i row) = added w i row
 called w (withdraw i) = withdrawn w i
@@ -56,6 +57,7 @@ studyAfter n w h = after (opened n w .words) h
 abbrev pub lastAccepted : ℕ → List ℕ → List Call → ℕ → Option Call
 lastAccepted n w h i = lastFrom i none (opened n w .words) h
 
+-- whether there is one and it is an add
 abbrev pub isAdd : Option Call → Bool
 isAdd none = false
 isAdd (some (add i row)) = true
@@ -69,6 +71,7 @@ leaves n (some (withdraw i)) = none
 
 -- ---- the runs in force, given to a fresh study
 
+-- two rows with the same groups
 abbrev pub SameGroups : ℕ → List ℕ → List ℕ → Type 0
 SameGroups n r q = (x : Group) → member x (groups n r) ≡ member x (groups n q)
 

@@ -22,6 +22,7 @@ unfoldable pub find : ℕ → List Run → Option Run
 find i [] = none
 find i (r ∷ rs) = cond (eqb i (r .identifier)) (some r) (find i rs)
 
+-- whether there is one
 abbrev pub isSome : {A : Type 0} → Option A → Bool
 isSome none = false
 isSome (some a) = true

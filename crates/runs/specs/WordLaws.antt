@@ -4,7 +4,8 @@ use mathlib.Core.Path.{_≡_, refl, sym, ap, _∙_}
 use mathlib.Core.Logic.{_↔_, ⊎-elim}
 use mathlib.Core.List.{List, [], _∷_, _++_, append-assoc, List·Memᴰ, List·Memᴰ·head, List·Memᴰ·tail}
 use mathlib.Core.Bool.{true, false, true≢false}
-use native.Mathlib.Nat.{le-of-suc-le-suc, eq-or-lt-of-le, add-zero, add-suc, suc-add, zero-add, zero-mul, suc-mul, mul-le-mul-right, le-div-iff-mul-le, zero-div}
+use native.Mathlib.Nat.{le-of-suc-le-suc, eq-or-lt-of-le, add-zero, add-suc, suc-add, zero-add}
+use native.Mathlib.Nat.{zero-mul, suc-mul, mul-le-mul-right, le-div-iff-mul-le, zero-div}
 use native.Mathlib.Numerals.{add-one}
 use native.Mathlib.Omega.{arith}
 use lib.ListN.{length, getD, take, drop, length-append, length-drop, take-append-drop}
@@ -14,7 +15,8 @@ use Rattle.trees.specs.Lists.{tabulate, zeros}
 use Rattle.trees.specs.Checks.{rowWords}
 use Rattle.trees.specs.Reporting.{Run}
 use Rattle.trees.specs.ListLaws.{length-tabulate, tabulate-eq, length-zeros}
-use Rattle.runs.specs.Words.{header, samples, inForce, headerWords, slotWords, slot, readRun, slots, slotStart, runAt, runs, encode, mostRuns, capacity, full}
+use Rattle.runs.specs.Words.{header, samples, inForce, headerWords, slotWords, slot, readRun, slots}
+use Rattle.runs.specs.Words.{slotStart, runAt, runs, encode, mostRuns, capacity, full}
 
 -- each row has 2n words
 abbrev pub Wide : ℕ → List Run → Type 0

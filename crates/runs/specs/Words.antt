@@ -20,6 +20,7 @@ version = 1
 abbrev pub header : ℕ → ℕ → List ℕ
 header n k = mark ++ (version ∷ n ∷ k ∷ 0 ∷ 0 ∷ [])
 
+-- where n and k stand, and what they are in a study's words
 abbrev pub samplesAt : ℕ
 samplesAt = 4
 
@@ -50,6 +51,7 @@ slot run = run .identifier ∷ run .row
 abbrev pub readRun : ℕ → List ℕ → Run
 readRun n ws = record { identifier = getD ws 0 0; row = take (rowWords n) (drop rowOffset ws) }
 
+-- the slots of runs, one behind the other
 unfoldable pub slots : List Run → List ℕ
 slots [] = []
 slots (r ∷ rs) = slot r ++ slots rs
@@ -58,6 +60,7 @@ slots (r ∷ rs) = slot r ++ slots rs
 abbrev pub slotStart : ℕ → ℕ → ℕ
 slotStart n i = headerWords + i * slotWords n
 
+-- the run in slot i
 abbrev pub runAt : ℕ → List ℕ → ℕ → Run
 runAt n w i = readRun n (drop (slotStart n i) w)
 

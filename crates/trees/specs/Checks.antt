@@ -26,6 +26,7 @@ line k applies = record { number = k; fault = cond applies (at 0) nowhere }
 abbrev pub lineAt : ℕ → (ℕ → Bool) → List ℕ → Check
 lineAt k applies places = record { number = k; fault = first applies places }
 
+-- the refusal of a line that applies, and v where it does not
 abbrev pub orElse : ℕ → Place → Verdict → Verdict
 orElse k nowhere v = v
 orElse k (at p) v = refused k p
@@ -51,6 +52,7 @@ mostSamples = 512
 abbrev pub rowWords : ℕ → ℕ
 rowWords n = 2 * n
 
+-- whether x is outside a to b
 abbrev pub outside : ℕ → ℕ → ℕ → Bool
 outside a b x = ltb x a || ltb b x
 
@@ -62,7 +64,7 @@ isInner n m p = leb n p && ltb p m
 abbrev pub check1 : ℕ → Check
 check1 n = line 1 (outside fewestSamples mostSamples n)
 
--- "a row .. is not 2n words"
+-- "a row or output buffer is not 2n words", of one buffer
 abbrev pub check3 : ℕ → List ℕ → Check
 check3 n r = line 3 (not (eqb (length r) (rowWords n)))
 
@@ -85,7 +87,7 @@ check7 n r = line 7 (not (eqb (count (childOf r rootMark) (range n (nodes r))) 1
 abbrev pub check8 : ℕ → List ℕ → Check
 check8 n r = lineAt 8 (λ w. not (eqb (getD r w 0) 0)) (range (nodes r + 1) (rowWords n))
 
--- "a node from which the parents never reach the root"; that m steps stand for ever is `never`
+-- "a node from which the parents never reach the root": m steps decide it (`judged-never`)
 abbrev pub check9 : ℕ → List ℕ → Check
 check9 n r = lineAt 9 (λ v. not (ends (nodes r) r v)) (range 0 (nodes r))
 
@@ -104,5 +106,6 @@ rowChecks n r = check5 n r ∷ check6 n r ∷ check7 n r ∷ check8 n r ∷ chec
 unfoldable pub judgeChecks : ℕ → List ℕ → List Check
 judgeChecks n r = check1 n ∷ check3 n r ∷ rowChecks n r
 
+-- what judging a row answers; it "writes nothing"
 unfoldable pub judged : ℕ → List ℕ → Verdict
 judged n r = judgeChecks n r ⊳ accepted

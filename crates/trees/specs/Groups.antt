@@ -10,6 +10,7 @@ use Rattle.trees.specs.Lists.{tabulate}
 abbrev pub Group : Type 0
 Group = List Bool
 
+-- whether sample s is in it
 abbrev pub has : Group → ℕ → Bool
 has g s = getD g s false
 
@@ -20,12 +21,13 @@ whole n = replicate n true
 abbrev pub single : ℕ → ℕ → Group
 single n s = tabulate n (λ t. eqb t s) 0
 
+-- how many samples it has
 unfoldable pub size : Group → ℕ
 size [] = 0
 size (true ∷ g) = suc (size g)
 size (false ∷ g) = size g
 
--- the smallest sample
+-- the smallest sample, or n where there is none
 unfoldable pub lowest : Group → ℕ
 lowest [] = 0
 lowest (true ∷ g) = 0
@@ -54,6 +56,7 @@ agree g h = within g h || within h g || apart g h
 abbrev pub conflict : Group → Group → Bool
 conflict g h = not (agree g h)
 
+-- whether g and h are one group
 unfoldable pub same : Group → Group → Bool
 same [] [] = true
 same [] (y ∷ h) = false
@@ -63,7 +66,8 @@ same (true ∷ g) (false ∷ h) = false
 same (false ∷ g) (true ∷ h) = false
 same (false ∷ g) (false ∷ h) = same g h
 
--- whether the rising sample list of g comes before that of h, of two groups of one size
+-- whether the rising sample list of g comes before that of h, where they have one size; of two lists of Bools
+-- that are alike as far as they go the shorter comes first, so that any two groups are ordered
 unfoldable pub listFirst : Group → Group → Bool
 listFirst [] [] = false
 listFirst [] (y ∷ h) = true
@@ -78,6 +82,7 @@ listFirst (false ∷ g) (false ∷ h) = listFirst g h
 unfoldable pub before : Group → Group → Bool
 before g h = ltb (size h) (size g) || (eqb (size g) (size h) && listFirst g h)
 
+-- whether g is one of a list
 unfoldable pub member : Group → List Group → Bool
 member g [] = false
 member g (h ∷ hs) = same g h || member g hs

@@ -5,6 +5,7 @@ use Prim.Native.Nat.{ℕ}
 use Rattle.trees.specs.Checks.{Verdict, accepted, Check, _⊳_}
 use Rattle.trees.specs.Valid.{isAccepted}
 
+-- what a call answers, and its buffer after it
 pub record Outcome : Type 0 where
   pub verdict : Verdict
   pub words : List ℕ

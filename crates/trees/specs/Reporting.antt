@@ -9,7 +9,7 @@ use Rattle.trees.specs.Rows.{nodes, groups, holds}
 use Rattle.trees.specs.Checks.{rowWords}
 use Rattle.trees.specs.Numbering.{ordered, branching, rowOf}
 
--- "each redraw gives a run": its identifier and its row
+-- a run: "identifier, then the row"
 pub record Run : Type 0 where
   pub identifier : ℕ
   pub row : List ℕ
@@ -26,7 +26,7 @@ support n rs g = weigh worth (λ run. holds n g (run .row)) rs
 unfoldable pub total : List Run → ℕ
 total rs = weigh worth (λ run. true) rs
 
--- Which groups are shown: a test on a group and the runs.
+-- Which groups are shown: over n samples, a test on the runs in force and a group.
 abbrev pub Rule : Type 0
 Rule = ℕ → List Run → Group → Bool
 

@@ -14,6 +14,7 @@ use Rattle.trees.specs.Outcomes.{Outcome, outcome}
 abbrev pub check3Both : ℕ → List ℕ → List ℕ → Check
 check3Both n r q = line 3 (not (eqb (length r) (rowWords n)) || not (eqb (length q) (rowWords n)))
 
+-- the checks of renumbering: its row and its output are 2n words each
 unfoldable pub renumberChecks : ℕ → List ℕ → List ℕ → List Check
 renumberChecks n r out = check1 n ∷ check3Both n r out ∷ rowChecks n r
 
@@ -33,5 +34,6 @@ moved d c = record { number = c .number; fault = movedPlace d (c .fault) }
 unfoldable pub compareChecks : ℕ → List ℕ → List ℕ → List Check
 compareChecks n r q = check1 n ∷ check3Both n r q ∷ (rowChecks n r ++ map (moved (rowWords n)) (rowChecks n q))
 
+-- what comparing answers: a refusal, or its three counts
 unfoldable pub comparing : ℕ → List ℕ → List ℕ → Verdict
 comparing n r q = compareChecks n r q ⊳ compared n r q

@@ -22,7 +22,7 @@ rootMark = 65535
 abbrev pub childOf : List ℕ → ℕ → ℕ → Bool
 childOf r v u = eqb (parent r u) v
 
--- whether v is met on the way up from u, in at most this many steps
+-- whether v is met on the way up from u, u itself included, in at most this many steps
 unfoldable pub meets : ℕ → List ℕ → ℕ → ℕ → Bool
 meets zero r v u = eqb u v
 meets (suc f) r v u = eqb u v || (not (childOf r rootMark u) && meets f r v (parent r u))
@@ -32,7 +32,7 @@ unfoldable pub ends : ℕ → List ℕ → ℕ → Bool
 ends zero r v = false
 ends (suc f) r v = childOf r rootMark v || ends f r (parent r v)
 
--- "The group of a node is the set of samples at or below it."
+-- "The group of a node is the set of samples at or below it." A way up that comes to a root does so within m steps (`ends-enough`).
 unfoldable pub groupAt : ℕ → List ℕ → ℕ → Group
 groupAt n r v = tabulate n (meets (nodes r) r v) 0
 
@@ -44,5 +44,6 @@ groups n r = tabulate (nodes r) (groupAt n r) 0
 unfoldable pub inner : ℕ → List ℕ → List Group
 inner n r = tabulate (nodes r - n) (groupAt n r) n
 
+-- "runs holding it": whether a group is one of a run's row
 abbrev pub holds : ℕ → Group → List ℕ → Bool
 holds n g r = member g (groups n r)

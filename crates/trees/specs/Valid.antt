@@ -38,16 +38,18 @@ pub record Standard (n : ℕ) (r : List ℕ) : Type 0 where
   pub valid : Valid n r
   pub strict : Strict (inner n r)
 
--- Standard, as a test (`standard-to`, `standard-from`).
+-- whether a verdict is acceptance
 abbrev pub isAccepted : Verdict → Bool
 isAccepted accepted = true
 isAccepted (refused k p) = false
 isAccepted (counted a b c) = false
 
+-- each group before the next
 unfoldable pub inOrder : List Group → Bool
 inOrder [] = true
 inOrder (g ∷ []) = true
 inOrder (g ∷ h ∷ gs) = before g h && inOrder (h ∷ gs)
 
+-- Standard, as a test (`standard-to`, `standard-from`).
 unfoldable pub standard : ℕ → List ℕ → Bool
 standard n r = isAccepted (judged n r) && inOrder (inner n r)
