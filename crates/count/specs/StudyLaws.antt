@@ -8,10 +8,10 @@ use lib.ListN.{length, getD}
 use Rattle.trees.specs.Checks.{fewestSamples, mostSamples}
 use Rattle.trees.specs.Valid.{Standard}
 use Rattle.trees.specs.Reporting.{Run, majority}
-use Rattle.trees.specs.ListLaws.{getD-tabulate}
+use Rattle.trees.specs.ListLaws.{member-at, getD-tabulate}
 use Rattle.trees.specs.ReportingLaws.{Runs, Sound, majority-sound}
 use Rattle.runs.specs.Words.{samples, inForce, slotStart, slotWords, runAt, runs, mostRuns}
-use Rattle.runs.specs.WordLaws.{length-runs, member-at}
+use Rattle.runs.specs.WordLaws.{length-runs}
 use Rattle.runs.specs.SlotLaws.{slot-within, formed-fits, formed-few}
 use Rattle.count.specs.Studies.{Study, rowAt}
 

@@ -11,13 +11,13 @@ use borrow.Author.Tests.{lt-ltb, le-ltb, eq-eqb, ne-eqb}
 use Rattle.trees.specs.Lists.{zeros}
 use Rattle.trees.specs.Checks.{rowWords}
 use Rattle.trees.specs.Reporting.{Run}
-use Rattle.trees.specs.ListLaws.{getD-tabulate}
+use Rattle.trees.specs.ListLaws.{member-at, getD-tabulate}
 use Rattle.runs.specs.Runs.{find, insertRun, deleteRun}
 use Rattle.runs.specs.Words.{header, samples, inForce, inForceAt, slotWords, slot, slots, slotStart, runAt, runs, padded, encode}
 use Rattle.runs.specs.Formed.{Rising, Formed}
 use Rattle.runs.specs.Moves.{identifierAt, StandsAt, GoesBefore, putAt, closeAt, slotPut, slotClosed}
 use Rattle.runs.specs.RunLaws.{Absent, find-here, find-past, find-below}
-use Rattle.runs.specs.WordLaws.{Wide, member-at, length-slots, capacity-room, length-runs}
+use Rattle.runs.specs.WordLaws.{Wide, length-slots, capacity-room, length-runs}
 use Rattle.runs.specs.FormedLaws.{stored-wide}
 
 -- ---- a place in a rising list

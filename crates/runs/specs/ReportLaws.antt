@@ -21,7 +21,7 @@ use Rattle.trees.specs.ReportingLaws.{majority-supports, supports-length, suppo
 use Rattle.runs.specs.Words.{samples, inForce, runs}
 use Rattle.runs.specs.Formed.{wellFormed, Formed}
 use Rattle.runs.specs.WordLaws.{length-runs}
-use Rattle.runs.specs.FormedLaws.{formed-to}
+use Rattle.runs.specs.FormedLaws.{formed-to, formed-valid}
 use Rattle.runs.specs.Reports.{reportFormedChecks, reportChecks, reported}
 
 module _ (rule : Rule) (w a s : List ℕ) where
@@ -59,9 +59,6 @@ module _ (rule : Rule) (w a s : List ℕ) where
       some zero x = absurd (x refl)
       some (suc k) x = omega arith
 
-formed-runs : (w : List ℕ) → Formed w → Runs (samples w) (runs w)
-formed-runs w ok run m = ok .stored run m .standard .valid
-
 -- ---- DEMAND 2, of what an accepted report leaves
 
 module _ (w a s : List ℕ) (e : reported majority w a s .verdict ≡ accepted) where
@@ -69,7 +66,7 @@ module _ (w a s : List ℕ) (e : reported majority w a s .verdict ≡ accepted) 
   n = samples w
 
   ok : Runs n (runs w)
-  ok = formed-runs w (reported-formed majority w a s e .0)
+  ok = formed-valid w (reported-formed majority w a s e .0)
 
   some : 0 < length (runs w)
   some = rw (length-runs w) (reported-formed majority w a s e .1)

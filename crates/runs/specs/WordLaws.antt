@@ -14,7 +14,7 @@ use borrow.Author.Tests.{eq-eqb, ne-eqb}
 use Rattle.trees.specs.Lists.{tabulate, zeros}
 use Rattle.trees.specs.Checks.{rowWords}
 use Rattle.trees.specs.Reporting.{Run}
-use Rattle.trees.specs.ListLaws.{length-tabulate, tabulate-eq, length-zeros}
+use Rattle.trees.specs.ListLaws.{member-at, length-tabulate, tabulate-eq, length-zeros}
 use Rattle.runs.specs.Words.{header, samples, inForce, headerWords, slotWords, slot, readRun, slots}
 use Rattle.runs.specs.Words.{slotStart, runAt, runs, encode, mostRuns, capacity, full}
 
@@ -128,11 +128,6 @@ pub rest-encode : (len n : ℕ) (rs : List Run) → Wide n rs
     → drop (slotStart n (length rs)) (encode len n rs) ≡ zeros (len - length (header n (length rs) ++ slots rs))
 unfolding slots
 rest-encode len n rs h = drop-encode len n rs (length rs) h (omega arith) ∙ ap (λ (xs : List Run). slots xs ++ rest len n rs) (drop-length rs)
-
-pub member-at : (xs : List Run) (i : ℕ) (d : Run) → i < length xs → List·Memᴰ (getD xs i d) xs
-member-at [] i d l = absurd (omega arith)
-member-at (x ∷ xs) zero d l = List·Memᴰ·head refl
-member-at (x ∷ xs) (suc i) d l = List·Memᴰ·tail (member-at xs i d (le-of-suc-le-suc l))
 
 run-encode : (len n : ℕ) (rs : List Run) (i : ℕ) (d : Run) → Wide n rs → i < length rs → runAt n (encode len n rs) i ≡ getD rs i d
 unfolding slots

@@ -33,6 +33,11 @@ pub or-none : (a b : Bool) → a || b ≡ false → (a ≡ false) × (b ≡ fals
 or-none true b e = (e, (cc))
 or-none false b e = (refl, e)
 
+pub or-swap : (a b c : Bool) → a || (b || c) ≡ (b || (a || c))
+or-swap true true c = refl
+or-swap true false c = refl
+or-swap false b c = refl
+
 -- two tests that pass together are one
 pub true-eq : (a b : Bool) → (a ≡ true → b ≡ true) → (b ≡ true → a ≡ true) → a ≡ b
 true-eq true b f g = sym (f refl)

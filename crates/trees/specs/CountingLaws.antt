@@ -5,7 +5,6 @@ use mathlib.Core.Logic.{⊎-elim}
 use mathlib.Core.List.{List, [], _∷_, _++_, List·Memᴰ, List·Memᴰ·head}
 use mathlib.Core.List.{List·Memᴰ·tail, List·Memᴰ·not-nil, List·Memᴰ·append-cases, Memᴰ·append-left, Memᴰ·append-right}
 use mathlib.Core.Bool.{Bool, true, false, _&&_, _||_, or-false, or-assoc, and-or-distrib-left}
-use native.Mathlib.Nat.{le-of-suc-le-suc}
 use native.Mathlib.Omega.{arith}
 use lib.Dec.{leb}
 use lib.ListN.{length, getD, take}
@@ -14,12 +13,12 @@ use borrow.Author.Tests.{leb-true, leb-false, le-leb}
 use Rattle.trees.specs.Lists.{filter, tabulate}
 use Rattle.trees.specs.Groups.{Group, whole, single, size, same, member}
 use Rattle.trees.specs.Rows.{nodes, groupAt, groups, inner, holds}
-use Rattle.trees.specs.Checks.{mostSamples}
 use Rattle.trees.specs.Valid.{Valid, In, Strict, Standard}
 use Rattle.trees.specs.Numbering.{ordered, branching, rowOf}
 use Rattle.trees.specs.Reporting.{Run, Rule, majority, held, shown, references}
 use Rattle.trees.specs.Counting.{soFar}
 use Rattle.trees.specs.BoolLaws.{and-l, and-r, and-both, or-cases, or-l, or-r, true-eq, not-yes}
+use Rattle.trees.specs.ListLaws.{member-at, some-member}
 use Rattle.trees.specs.GroupLaws.{size-whole, single-small}
 use Rattle.trees.specs.MemberLaws.{in-none, in-head, in-tail, in-cases, member-ordered, member-append}
 use Rattle.trees.specs.MemberLaws.{member-filter, strict-ordered, strict-filter, strict-unique, in-table}
@@ -27,7 +26,7 @@ use Rattle.trees.specs.RowLaws.{in-inner, inner-in, inner-two, groups-sp
 use Rattle.trees.specs.FamilyLaws.{Family}
 use Rattle.trees.specs.PlantingLaws.{planted}
 use Rattle.trees.specs.NumberingLaws.{row-tree}
-use Rattle.trees.specs.ReportingLaws.{Runs, Holder, in-held, held-in, Sound, shown-member, shown-strict, majority-early}
+use Rattle.trees.specs.ReportingLaws.{Runs, Holder, in-held, held-in, Sound, shown-member, shown-strict, runs-least, runs-most, majority-early}
 use Rattle.trees.specs.Merging.{flagged, kept, merged}
 use Rattle.trees.specs.MergingLaws.{in-kept, kept-in, member-merged}
 
@@ -53,11 +52,6 @@ mem-take (suc i) [] x m = m
 mem-take (suc i) (y ∷ xs) x (List·Memᴰ·head e) = List·Memᴰ·head e
 mem-take (suc i) (y ∷ xs) x (List·Memᴰ·tail m) = List·Memᴰ·tail (mem-take i xs x m)
 
-mem-at : (rs : List Run) (i : ℕ) (d : Run) → i < length rs → List·Memᴰ (getD rs i d) rs
-mem-at [] i d h = absurd (omega arith)
-mem-at (r ∷ rs) zero d h = List·Memᴰ·head refl
-mem-at (r ∷ rs) (suc i) d h = List·Memᴰ·tail (mem-at rs i d (le-of-suc-le-suc h))
-
 held-append : (n : ℕ) (rs qs : List Run) (x : Group) → member x (held n (rs ++ qs)) ≡ (member x (held n rs) || member x (held n qs))
 held-append n rs qs x = true-eq _ _ to from
   where
@@ -79,13 +73,6 @@ module _ (rule : Rule) (n : ℕ) (rs : List Run) (ok : (run : Run) → List·Mem
   valid : Runs n rs
   valid run m = ok run m .valid
 
-  one-run : (xs : List Run) → 0 < length xs → (run : Run) × List·Memᴰ run xs
-  one-run [] h = absurd (omega arith)
-  one-run (run ∷ xs) h = (run, List·Memᴰ·head refl)
-
-  bounds : (2 ≤ n) × (n ≤ mostSamples)
-  bounds = let t = one-run rs some in (valid (t .0) (t .1) .least, valid (t .0) (t .1) .most)
-
   whole-held : (run : Run) → List·Memᴰ run rs → holds n (whole n) (run .row) ≡ true
   whole-held run m = row-tree n (run .row) (valid run m) .top
 
@@ -101,7 +88,7 @@ module _ (rule : Rule) (n : ℕ) (rs : List Run) (ok : (run : Run) → List·Mem
       (⊎-elim top early (in-cases x (whole n) (held n (take i rs)) (and-r (rule n rs x) _ f)))
     where
       top : x ≡ whole n → In x (held n rs)
-      top e = let t = one-run rs some in rw e (in-held n rs (whole n) (t .0, t .1, whole-held (t .0) (t .1)))
+      top e = let t = some-member rs some in rw e (in-held n rs (whole n) (t .0, t .1, whole-held (t .0) (t .1)))
 
       early : In x (held n (take i rs)) → In x (held n rs)
       early k = let t = held-in n (take i rs) x k in in-held n rs x (t .0, mem-take i rs (t .0) (t .1), t .2)
@@ -114,7 +101,7 @@ module _ (rule : Rule) (n : ℕ) (rs : List Run) (ok : (run : Run) → List·Mem
 
   so-far-whole : (i : ℕ) → In (whole n) (soFar rule n rs i)
   so-far-whole i = so-far-member rule n rs i (whole n)
-      ∙ and-both _ _ (le-leb 2 (size (whole n)) (omega (arith, bounds .0, size-whole n)))
+      ∙ and-both _ _ (le-leb 2 (size (whole n)) (omega (arith, runs-least n rs valid some, size-whole n)))
       (and-both _ _ whole-passes (in-head (whole n) (held n (take i rs))))
 
   pub so-far-family : (i : ℕ) → Family n (soFar rule n rs i)
@@ -179,7 +166,7 @@ module _ (rule : Rule) (n : ℕ) (rs : List Run) (ok : (run : Run) → List·Mem
       q = getD rs i d .row
 
       q-valid : Valid n q
-      q-valid = valid (getD rs i d) (mem-at rs i d h)
+      q-valid = valid (getD rs i d) (member-at rs i d h)
 
       merged-strict : Strict (merged n (rowOf n (soFar rule n rs i)) keepA q keepB)
       merged-strict = strict-ordered (kept n (rowOf n (soFar rule n rs i)) keepA ++ kept n q keepB)
@@ -189,7 +176,7 @@ module _ (rule : Rule) (n : ℕ) (rs : List Run) (ok : (run : Run) → List·Mem
           (sym (or-assoc (same x (whole n)) (member x (held n (take i rs))) (member x (groups n q))))
 
       left : (x : Group) → member x (kept n (rowOf n (soFar rule n rs i)) keepA) ≡ member x (soFar rule n rs i)
-      left x = kept-all (rowOf n (soFar rule n rs i)) keepA a x ∙ ap (member x) (planted n (soFar rule n rs i) (so-far-family i) (bounds .1))
+      left x = kept-all (rowOf n (soFar rule n rs i)) keepA a x ∙ ap (member x) (planted n (soFar rule n rs i) (so-far-family i) (runs-most n rs valid some))
 
       same-members : (x : Group) → member x (merged n (rowOf n (soFar rule n rs i)) keepA q keepB) ≡ member x (soFar rule n rs (suc i))
       same-members x = member-merged n (rowOf n (soFar rule n rs i)) keepA q keepB x

@@ -60,6 +60,18 @@ getD-zeros zero i = refl
 getD-zeros (suc n) zero = refl
 getD-zeros (suc n) (suc i) = getD-zeros n i
 
+-- ---- members
+
+module _ {A : Type 0} where
+  pub member-at : (xs : List A) (i : ℕ) (d : A) → i < length xs → List·Memᴰ (getD xs i d) xs
+  member-at [] i d h = absurd (omega arith)
+  member-at (x ∷ xs) zero d h = List·Memᴰ·head refl
+  member-at (x ∷ xs) (suc i) d h = List·Memᴰ·tail (member-at xs i d (le-of-suc-le-suc h))
+
+  pub some-member : (xs : List A) → 0 < length xs → (x : A) × List·Memᴰ x xs
+  some-member [] h = absurd (omega arith)
+  some-member (x ∷ xs) h = (x, List·Memᴰ·head refl)
+
 -- ---- ranges
 
 pub range-cons : (a b : ℕ) → a < b → range a b ≡ a ∷ range (suc a) b

@@ -18,7 +18,7 @@ use Rattle.trees.specs.Tables.{tableWords, entry, rankStep}
 use Rattle.trees.specs.Passes.{Ranked}
 use Rattle.trees.specs.Merging.{keptFrom, kept, merged, Mergeable}
 use Rattle.trees.specs.Lockstep.{Next, blank, rankEnd, rankOrEnd, Chosen, placeIn, numberAt, lowOf, Numbered, Side, Lock, Given}
-use Rattle.trees.specs.BoolLaws.{or-cases, or-none, decide}
+use Rattle.trees.specs.BoolLaws.{or-cases, or-none, or-swap, decide}
 use Rattle.trees.specs.ListLaws.{length-zeros, getD-zeros}
 use Rattle.trees.specs.GroupLaws.{Agree, same-eq, eq-same}
 use Rattle.trees.specs.OrderLaws.{before-irrefl, before-trans}
@@ -87,12 +87,7 @@ module _ (g : Group) (xs ys : List Group) (p : Leads g xs) (q : Leads g ys) wher
   take-second : ordered (xs ++ (g ∷ ys)) ≡ g ∷ ordered (xs ++ ys)
   unfolding member
   take-second = front g (xs ++ (g ∷ ys)) (xs ++ ys) (leads-both g xs ys p q)
-      (λ z. rw (member-append z xs (g ∷ ys), member-append z xs ys) (swap (member z xs) (same z g) (member z ys)))
-    where
-      swap : (a b c : Bool) → a || (b || c) ≡ (b || (a || c))
-      swap true true c = refl
-      swap true false c = refl
-      swap false b c = refl
+      (λ z. rw (member-append z xs (g ∷ ys), member-append z xs ys) (or-swap (member z xs) (same z g) (member z ys)))
 
   take-both : ordered ((g ∷ xs) ++ (g ∷ ys)) ≡ g ∷ ordered (xs ++ ys)
   unfolding member

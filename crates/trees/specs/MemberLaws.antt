@@ -11,7 +11,7 @@ use Rattle.trees.specs.Lists.{tabulate, filter}
 use Rattle.trees.specs.Groups.{Group, same, before, member}
 use Rattle.trees.specs.Valid.{In, Strict, inOrder}
 use Rattle.trees.specs.Numbering.{enter, ordered}
-use Rattle.trees.specs.BoolLaws.{and-l, and-r, and-both, or-cases, or-r, true-eq}
+use Rattle.trees.specs.BoolLaws.{and-l, and-r, and-both, or-cases, or-r, or-swap, true-eq}
 use Rattle.trees.specs.ListLaws.{length-tabulate, getD-tabulate}
 use Rattle.trees.specs.GroupLaws.{same-refl, same-eq, eq-same}
 use Rattle.trees.specs.OrderLaws.{before-irrefl, before-trans, first, equal, later, order}
@@ -63,11 +63,6 @@ in-table k f s g m = let t = at-in (tabulate k f s) g m in let h : t .0 < k = om
 pub table-in : (k : ℕ) (f : ℕ → Group) (s v : ℕ) → s ≤ v → v < s + k → In (f v) (tabulate k f s)
 table-in k f s v a b = let h : v - s < k = omega arith in let e : s + (v - s) ≡ v = add-sub-of-le a in
     rw (getD-tabulate k f s (v - s) [] h, e) at (in-at (tabulate k f s) (v - s) (omega (arith, length-tabulate k f s)))
-
-or-swap : (a b c : Bool) → a || (b || c) ≡ (b || (a || c))
-or-swap true true c = refl
-or-swap true false c = refl
-or-swap false b c = refl
 
 pub member-enter : (x g : Group) (hs : List Group) → member x (enter g hs) ≡ (same x g || member x hs)
 unfolding member enter

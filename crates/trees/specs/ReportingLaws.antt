@@ -18,7 +18,7 @@ use Rattle.trees.specs.Valid.{Valid, In, Strict, Standard}
 use Rattle.trees.specs.Numbering.{ordered, branching}
 use Rattle.trees.specs.Reporting.{Run, worth, support, total, Rule, majority, held, shown, agreed, supports, references}
 use Rattle.trees.specs.BoolLaws.{and-l, and-r, and-both, or-cases, or-l, or-r, true-eq}
-use Rattle.trees.specs.ListLaws.{length-tabulate, getD-tabulate, map-tabulate, length-zeros, getD-zeros}
+use Rattle.trees.specs.ListLaws.{some-member, length-tabulate, getD-tabulate, map-tabulate, length-zeros, getD-zeros}
 use Rattle.trees.specs.ListLaws.{weigh-mono, weigh-found, weigh-both, count-all, count-early}
 use Rattle.trees.specs.GroupLaws.{Agree}
 use Rattle.trees.specs.MemberLaws.{in-none, member-ordered, member-append, member-filter, strict-ordered, strict-filter}
@@ -65,16 +65,20 @@ pub shown-strict : (rule : Rule) (n : ℕ) (rs : List Run) → Strict (shown rul
 unfolding shown
 shown-strict rule n rs = strict-filter (rule n rs) (ordered (held n rs)) (strict-ordered (held n rs))
 
+-- a run says that n is in range
+module _ (n : ℕ) (rs : List Run) (ok : Runs n rs) (some : 0 < length rs) where
+  pub runs-least : fewestSamples ≤ n
+  runs-least = let t = some-member rs some in ok (t .0) (t .1) .least
+
+  pub runs-most : n ≤ mostSamples
+  runs-most = let t = some-member rs some in ok (t .0) (t .1) .most
+
 module _ (rule : Rule) (n : ℕ) (rs : List Run) (ok : Runs n rs) (some : 0 < length rs) (sound : Sound rule n rs) where
   holder : (g : Group) → In g (shown rule n rs) → Holder n g rs
   holder g m = held-in n rs g (and-r (rule n rs g) (member g (held n rs)) (sym (shown-member rule n rs g) ∙ m))
 
-  first-run : (xs : List Run) → 0 < length xs → (run : Run) × List·Memᴰ run xs
-  first-run [] h = absurd (omega arith)
-  first-run (run ∷ xs) h = (run, List·Memᴰ·head refl)
-
   by-all : (g : Group) → ((run : Run) → List·Memᴰ run rs → holds n g (run .row) ≡ true) → In g (shown rule n rs)
-  by-all g f = let t = first-run rs some in shown-member rule n rs g
+  by-all g f = let t = some-member rs some in shown-member rule n rs g
       ∙ and-both (rule n rs g) (member g (held n rs)) (sound .unanimous g f) (in-held n rs g (t .0, t .1, f (t .0) (t .1)))
 
   shown-tree : Tree n (shown rule n rs)
@@ -87,10 +91,10 @@ module _ (rule : Rule) (n : ℕ) (rs : List Run) (ok : Runs n rs) (some : 0 < le
   }
 
   least : fewestSamples ≤ n
-  least = let t = first-run rs some in ok (t .0) (t .1) .least
+  least = runs-least n rs ok some
 
   most : n ≤ mostSamples
-  most = let t = first-run rs some in ok (t .0) (t .1) .most
+  most = runs-most n rs ok some
 
   pub agreed-standard : Standard n (agreed rule n rs)
   unfolding agreed
