@@ -10,7 +10,7 @@ use Rattle.trees.specs.Rows.{nodes, parent, meets, groupAt}
 use Rattle.trees.specs.Valid.{Standard}
 use Rattle.trees.specs.Rooted.{Rooted}
 use Rattle.trees.specs.BoolLaws.{not-yes}
-use Rattle.trees.specs.RowLaws.{has-group, no-mark, above-parent, parent-range, valid-rooted}
+use Rattle.trees.specs.RowLaws.{has-group, no-mark, above-parent, valid-rooted}
 use Rattle.trees.specs.StandardLaws.{not-up, parent-below}
 
 module _ (n : ℕ) (r : List ℕ) (std : Standard n r) where
@@ -24,7 +24,7 @@ module _ (n : ℕ) (r : List ℕ) (std : Standard n r) where
   pub above-later : (v u : ℕ) → n ≤ v → v < u → u < nodes r → (n ≤ parent r u) × (parent r u < u) × (meets (nodes r) r v u ≡ meets (nodes r) r v (parent r u))
   above-later v u a h k =
       ⊎-elim (λ t. absurd (omega (arith, t .0)))
-      (λ t. (parent-range n r (std .valid) u k (t .0) .0, t .1, above-parent n r up v u k (t .0) (λ q. omega arith)))
+      (λ t. (t .1, t .2, above-parent n r up v u k (t .0) (λ q. omega arith)))
       (parent-below n r std u (omega arith) k)
 
   pub has-sample : (v s : ℕ) → n ≤ v → s < n → has (groupAt n r v) s ≡ meets (nodes r) r v (parent r s)

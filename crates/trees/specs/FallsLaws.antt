@@ -1,21 +1,19 @@
 -- Falls is what its test says, and a standard row falls. Assumes nothing.
 use Prim.Native.Nat.{ℕ, _≤_, _<_, zero-le}
 use mathlib.Core.Path.{_≡_, refl, ap}
-use mathlib.Core.Logic.{_⊎_, inl, inr, ⊎-elim}
+use mathlib.Core.Logic.{⊎-elim}
 use mathlib.Core.List.{List}
-use mathlib.Core.Bool.{true, false, not, cond}
+use mathlib.Core.Bool.{true, not, cond}
 use native.Mathlib.Omega.{arith}
 use lib.Dec.{eqb, ltb}
 use lib.ListN.{length}
-use borrow.Author.Tests.{eqb-true, eqb-false, lt-ltb, le-ltb, eq-eqb, ne-eqb, not-false}
-use Rattle.trees.specs.Lists.{at}
-use Rattle.trees.specs.Rows.{nodes, parent, rootMark, childOf}
+use borrow.Author.Tests.{eqb-true, lt-ltb, le-ltb, eq-eqb, ne-eqb, not-false}
+use Rattle.trees.specs.Rows.{nodes, parent, rootMark}
 use Rattle.trees.specs.Checks.{mostSamples, rowWords, isInner}
 use Rattle.trees.specs.Valid.{Standard}
 use Rattle.trees.specs.Falls.{Falls, rightful, misplaced, falling}
 use Rattle.trees.specs.NeverLaws.{Tri, less, equal, more, tri, never-to, never-from}
 use Rattle.trees.specs.CheckLaws.{inner-to, inner-from}
-use Rattle.trees.specs.WayLaws.{up}
 use Rattle.trees.specs.StandardLaws.{parent-below}
 
 -- ---- the test is the record
@@ -52,20 +50,9 @@ standard-falls n r std = record {
   low = std .valid .low;
   high = std .valid .high;
   leaf = std .valid .leaf;
-  root = top (parent-below n r std n (omega arith) (std .valid .low));
-  down = λ v h k. low v h k (parent-below n r std v (omega arith) k) (std .valid .up v (omega arith) k);
+  root = ⊎-elim (λ q. q .1) (λ q. absurd (omega (arith, q .1, q .2))) (parent-below n r std n (omega arith) (std .valid .low));
+  down = λ v h k. ⊎-elim (λ q. absurd (omega (arith, q .0))) (λ q. (q .1, q .2)) (parent-below n r std v (omega arith) k);
 }
-  where
-    top : ((n ≡ n) × (parent r n ≡ rootMark)) ⊎ ((childOf r rootMark n ≡ false) × (parent r n < n)) → parent r n ≡ rootMark
-    top (inl q) = q .1
-    top (inr q) = ⊎-elim (λ p. p) (λ p. absurd (omega arith)) (std .valid .up n (omega arith) (std .valid .low))
-
-    low : (v : ℕ) → n < v → v < nodes r → ((v ≡ n) × (parent r v ≡ rootMark)) ⊎ ((childOf r rootMark v ≡ false) × (parent r v < v))
-        → (parent r v ≡ rootMark) ⊎ ((n ≤ parent r v) × (parent r v < nodes r))
-        → (n ≤ parent r v) × (parent r v < v)
-    low v h k (inl q) p = absurd (omega arith)
-    low v h k (inr q) (inl p) = absurd (eqb-false (parent r v) rootMark (q .0) p)
-    low v h k (inr q) (inr p) = (p .0, q .1)
 
 -- a falling row has fewer nodes than a table has words
 pub few : (n : ℕ) (r : List ℕ) → Falls n r → nodes r < rowWords mostSamples

@@ -7,7 +7,7 @@ use mathlib.Core.Bool.{Bool, true, false, _&&_, _||_, not, false≢true, true≢
 use native.Mathlib.Omega.{arith}
 use lib.Dec.{eqb, ltb, leb}
 use borrow.Author.Tests.{ltb-true, ltb-false, leb-true, leb-false, eqb-true, lt-ltb, le-leb, lt-leb, eq-eqb, ne-eqb}
-use Rattle.trees.specs.Lists.{tabulate, Place, at, range, first}
+use Rattle.trees.specs.Lists.{tabulate, Place, range, first}
 use Rattle.trees.specs.Groups.{Group, has, single, size, lowest, same, member}
 use Rattle.trees.specs.Rows.{nodes, groupAt, inner, holds}
 use Rattle.trees.specs.Valid.{Standard, In}

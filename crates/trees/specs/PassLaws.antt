@@ -14,9 +14,9 @@ use Rattle.trees.specs.Rows.{nodes, parent, meets, groupAt}
 use Rattle.trees.specs.Falls.{Falls, due}
 use Rattle.trees.specs.Tables.{Tabled, over, one, seeded}
 use Rattle.trees.specs.Passes.{node, stand, part, Stage, Stepped}
-use Rattle.trees.specs.BoolLaws.{true-eq}
+use Rattle.trees.specs.BoolLaws.{true-eq, decide}
 use Rattle.trees.specs.ListLaws.{length-tabulate, tabulate-same}
-use Rattle.trees.specs.WayLaws.{Met, here, up, met-to, meets-refl, meets-more}
+use Rattle.trees.specs.WayLaws.{meets-refl, meets-past}
 use Rattle.trees.specs.RowLaws.{Above, below-child}
 use Rattle.trees.specs.NeverLaws.{side, Tri, less, equal, more, tri}
 use Rattle.trees.specs.TurnLaws.{due-low, due-due, due-one, due-root, parent-in, falls-rooted, above-due}
@@ -62,11 +62,8 @@ module _ (n : ℕ) (r : List ℕ) (ok : Falls n r) where
 
       on : (w : ℕ) → (due n r w < d) ⊎ Above r w v → (due n r w < suc d) ⊎ Above r w (parent r v)
       on w (inl q) = inl (omega arith)
-      on w (inr q) = go (met-to r (nodes r) w v (meets-more r (nodes r) (suc (nodes r)) w v (omega arith) q))
-        where
-          go : Met r (nodes r) w v → (due n r w < suc d) ⊎ Above r w (parent r v)
-          go (here i) = inl (omega (arith, ap (due n r) i, node-child d h .2))
-          go (up i j) = inr j
+      on w (inr q) = ⊎-elim (λ e. inl (omega (arith, ap (due n r) (eqb-true v w e), node-child d h .2)))
+          (λ e. inr (meets-past r (nodes r) w v (eqb-false v w e) q)) (decide (eqb v w))
 
   stands : (d t : ℕ) → d < nodes r → t < n → At d t (stand n r d t)
   unfolding stand

@@ -108,7 +108,7 @@ module _ (n : ℕ) (r : List ℕ) (ok : Rooted n r) where
       other : (u ≡ s → ⊥) → ⊥
       other x = let t = step-down s u m k x in omega (arith, child-inner (t .0) s (t .1) (omega (arith, ok .low)) (t .2))
 
-  pub to-root : (f u : ℕ) → ends f r u ≡ true → u < nodes r → (w : ℕ) × (n ≤ w) × (w < nodes r) × (parent r w ≡ rootMark) × (meets f r w u ≡ true)
+  to-root : (f u : ℕ) → ends f r u ≡ true → u < nodes r → (w : ℕ) × (n ≤ w) × (w < nodes r) × (parent r w ≡ rootMark) × (meets f r w u ≡ true)
   to-root zero u e h = absurd (false≢true (sym (ends-none r u) ∙ e))
   to-root (suc f) u e h = go (decide (childOf r rootMark u)) (λ k l. to-root f (parent r u) k l)
     where

@@ -107,8 +107,8 @@ module _ (n : ℕ) (r : List ℕ) (std : Standard n r) where
       (no-mark n r up (parent r s) (p .1)) (omega (arith, length-inner n r))
       (λ l k. (λ q. omega arith, λ m. omega (arith, no-leaf-above n r up s (n + l) h (omega (arith, length-inner n r)) m))))
 
-  -- the parent of an inner node is the mark, of the first alone, or a smaller number
-  pub parent-below : (v : ℕ) → n ≤ v → v < nodes r → ((v ≡ n) × (parent r v ≡ rootMark)) ⊎ ((childOf r rootMark v ≡ false) × (parent r v < v))
+  -- the parent of an inner node is the mark, of the first alone, or an inner node of a smaller number
+  pub parent-below : (v : ℕ) → n ≤ v → v < nodes r → ((v ≡ n) × (parent r v ≡ rootMark)) ⊎ ((childOf r rootMark v ≡ false) × (n ≤ parent r v) × (parent r v < v))
   parent-below v a h = go (decide (childOf r rootMark v))
     where
       first : childOf r rootMark v ≡ true → (eqb v n ≡ true) ⊎ (eqb v n ≡ false) → v ≡ n
@@ -131,13 +131,13 @@ module _ (n : ℕ) (r : List ℕ) (std : Standard n r) where
               (child-above n r up v (parent r v) h (p .1) refl)
 
       go : (childOf r rootMark v ≡ true) ⊎ (childOf r rootMark v ≡ false)
-          → ((v ≡ n) × (parent r v ≡ rootMark)) ⊎ ((childOf r rootMark v ≡ false) × (parent r v < v))
+          → ((v ≡ n) × (parent r v ≡ rootMark)) ⊎ ((childOf r rootMark v ≡ false) × (n ≤ parent r v) × (parent r v < v))
       go (inl e) = inl (first e (decide (eqb v n)), eqb-true (parent r v) rootMark e)
-      go (inr e) = inr (e, less e (decide (ltb (parent r v) v)))
+      go (inr e) = inr (e, parent-range n r ok v h e .0, less e (decide (ltb (parent r v) v)))
 
   inner-same : (j : ℕ) → n + j < nodes r → lastWith (lowest (nth (inner n r) j)) (take j (inner n r)) n rootMark ≡ parent r (n + j)
   unfolding lastWith
-  inner-same j h = ⊎-elim (λ q. top (q .0) (q .1)) (λ q. other (q .0) (q .1)) (parent-below (n + j) (omega arith) h)
+  inner-same j h = ⊎-elim (λ q. top (q .0) (q .1)) (λ q. other (q .0) (q .2)) (parent-below (n + j) (omega arith) h)
     where
       s : ℕ
       s = lowest (nth (inner n r) j)

@@ -9,7 +9,7 @@ use lib.Dec.{eqb, ltb, leb}
 use lib.ListN.{length, getD}
 use lib.Seq.{ext-getD}
 use borrow.Author.Tests.{eqb-true, ltb-true, ltb-false, eq-eqb, le-ltb, le-leb, not-true, not-false}
-use Rattle.trees.specs.Lists.{tabulate, weigh, at, range, count}
+use Rattle.trees.specs.Lists.{tabulate, weigh, range, count}
 use Rattle.trees.specs.Rows.{nodes, parent, rootMark, childOf, ends}
 use Rattle.trees.specs.Checks.{Verdict, accepted, refused, counted, fewestSamples, mostSamples, rowWords, outside, isInner}
 use Rattle.trees.specs.Checks.{stray, children, check6, check9, rowChecks, judgeChecks, judged, _⊳_}

@@ -13,6 +13,10 @@ use Rattle.trees.specs.Rows.{parent, rootMark, childOf, meets, ends}
 use Rattle.trees.specs.BoolLaws.{and-l, and-r, or-cases, or-r, true-eq}
 use Rattle.trees.specs.ListLaws.{length-range, range-in, weigh-mono, count-tight, count-le-length}
 
+-- each parent of a node below m is the mark or a node below m
+abbrev pub Closed : ℕ → List ℕ → Type 0
+Closed m r = (v : ℕ) → v < m → childOf r rootMark v ≡ false → parent r v < m
+
 module _ (r : List ℕ) where
   -- v is u, or is met from u's parent on
   pub data Met (f v u : ℕ) : Type 0 where
@@ -66,8 +70,8 @@ module _ (r : List ℕ) where
       go (here e) = absurd (x e)
       go (up e q) = q
 
-  -- the node below w on the way up from v, where the parents of nodes below m are below m
-  pub below : (m : ℕ) → ((v : ℕ) → v < m → childOf r rootMark v ≡ false → parent r v < m) → (f w v : ℕ) → meets f r w v ≡ true → v < m → (v ≡ w → ⊥)
+  -- the node below w on the way up from v
+  pub below : (m : ℕ) → Closed m r → (f w v : ℕ) → meets f r w v ≡ true → v < m → (v ≡ w → ⊥)
       → (c : ℕ) × (c < m) × (parent r c ≡ w) × (meets f r c v ≡ true)
   below m in-m zero w v a h x = absurd (x (meets-zero w v a))
   below m in-m (suc f) w v a h x = go (met-to f w v a) (eqb (parent r v) w) refl (λ e q l. below m in-m f w (parent r v) q l e)
@@ -148,10 +152,6 @@ module _ (r : List ℕ) where
       go (inr p) k = or-r (childOf r rootMark v) (ends (suc f) r (parent r v)) (k p)
 
 -- ---- ever is within m steps: the nodes whose way up ends within f steps are counted; from one f to the next there are more, or never more
-
--- each parent of a node below m is the mark or a node below m
-abbrev pub Closed : ℕ → List ℕ → Type 0
-Closed m r = (v : ℕ) → v < m → childOf r rootMark v ≡ false → parent r v < m
 
 module _ (r : List ℕ) (m : ℕ) (closed : Closed m r) where
   Stable : ℕ → Type 0
