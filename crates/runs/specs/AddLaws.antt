@@ -13,7 +13,9 @@ use Rattle.trees.specs.Lists.{nowhere}
 use Rattle.trees.specs.Checks.{Verdict, accepted, refused, Check, _⊳_, fewestSamples, mostSamples, rowWords, outside, check1, rowChecks, judgeChecks, judged}
 use Rattle.trees.specs.Valid.{Valid, isAccepted}
 use Rattle.trees.specs.Numbering.{renumbered}
-use Rattle.trees.specs.ChainLaws.{chain-append, chain-go, Passed, passed-chain, chain-passed, isRising, numbers, Exactly, line-passes}
+use Rattle.trees.specs.ChainLaws.{chain-append, chain-go, Passed, passed-chain, chain-passed, passed-append, passed-split}
+use Rattle.trees.specs.ChainLaws.{isRising, numbers, Exactly, refused-exactly, line-passes, line-pass}
+use Rattle.trees.specs.OutcomeLaws.{outcome-refused, outcome-accepted}
 use Rattle.trees.specs.CheckLaws.{not-outside}
 use Rattle.trees.specs.ValidLaws.{judged-valid, valid-row}
 use Rattle.trees.specs.NumberingLaws.{renumbered-standard, renumbered-groups, renumbered-same}
@@ -26,7 +28,7 @@ use Rattle.runs.specs.Histories.{SameGroups}
 use Rattle.runs.specs.RunLaws.{Absent, find-insert, insert-rising, length-insert, insert-member, absent-none}
 use Rattle.runs.specs.WordLaws.{room-exactly, length-runs}
 use Rattle.runs.specs.FormedLaws.{formed-to, formed-from, Room, room-runs}
-use Rattle.runs.specs.CallLaws.{line-pass, passed-append, passed-split, Kept, room-kept, outcome-exactly}
+use Rattle.runs.specs.CallLaws.{Kept, room-kept}
 
 judged-passed : (n : ℕ) (r : List ℕ) → Passed (judgeChecks n r) → judged n r ≡ accepted
 unfolding judged
@@ -95,15 +97,15 @@ module _ (w : List ℕ) (i : ℕ) (row : List ℕ) where
   -- DEMAND 1 of adding
   pub added-exactly : (k p : ℕ) → (added w i row .verdict ≡ refused k p) ↔ Exactly k p (addChecks w i row)
   unfolding added
-  added-exactly = outcome-exactly (addChecks w i row) w (encode (length w) n (runsWith w i row)) added-rising
+  added-exactly = refused-exactly (addChecks w i row) added-rising
 
   pub added-unchanged : (k p : ℕ) → added w i row .verdict ≡ refused k p → added w i row .words ≡ w
   unfolding added
-  added-unchanged k p e = rw e
+  added-unchanged = outcome-refused (addChecks w i row) w (encode (length w) n (runsWith w i row))
 
   pub added-words : added w i row .verdict ≡ accepted → added w i row .words ≡ encode (length w) (samples w) (runsWith w i row)
   unfolding added
-  added-words e = rw e
+  added-words = outcome-accepted (addChecks w i row) w (encode (length w) n (runsWith w i row))
 
   -- the checks that are left where the study is known to be well formed
   pub added-formed : wellFormed w ≡ true → addChecks w i row ⊳ accepted ≡ addFormedChecks w i row ⊳ accepted

@@ -28,7 +28,7 @@ module _ (rule : Rule) (w a s : List ℕ) where
   -- DEMAND 1: a number is given exactly when its line applies and no line of a smaller number does
   pub reported-exactly : (k p : ℕ) → (reported rule w a s .verdict ≡ refused k p) ↔ Exactly k p (reportChecks w a s)
   unfolding reported reportChecks reportFormedChecks isRising
-  reported-exactly k p = refused-exactly (reportChecks w a s) accepted k p refl (λ e. let z : _≡_ {A = ℕ} 0 1 = cc in omega arith)
+  reported-exactly = refused-exactly (reportChecks w a s) refl
 
   -- and neither buffer differs then
   pub reported-refused : (k p : ℕ) → reported rule w a s .verdict ≡ refused k p → (reported rule w a s .agreedRow ≡ a) × (reported rule w a s .supportRow ≡ s)

@@ -12,7 +12,8 @@ use borrow.Author.Tests.{eqb-false, eq-eqb, ne-eqb, not-false}
 use Rattle.trees.specs.Lists.{nowhere, at}
 use Rattle.trees.specs.Checks.{accepted, refused, _⊳_, rowChecks, judged}
 use Rattle.trees.specs.Reporting.{Run}
-use Rattle.trees.specs.ChainLaws.{chain-go, Passed, passed-chain, chain-passed, isRising, numbers, Exactly, exactly-at, line-passes}
+use Rattle.trees.specs.ChainLaws.{chain-go, Passed, passed-chain, chain-passed, isRising, numbers, Exactly, refused-exactly, exactly-at, line-passes, line-pass}
+use Rattle.trees.specs.OutcomeLaws.{outcome-refused, outcome-accepted}
 use Rattle.trees.specs.ValidLaws.{judged-valid}
 use Rattle.runs.specs.Runs.{find, isSome, present, deleteRun}
 use Rattle.runs.specs.Words.{samples, inForce, runs, encode, capacity, full}
@@ -21,7 +22,7 @@ use Rattle.runs.specs.Calls.{check2, check12, addFormedChecks, addChecks
 use Rattle.runs.specs.RunLaws.{Absent, find-delete, delete-rising, length-delete, delete-member, present-some}
 use Rattle.runs.specs.WordLaws.{room-exactly, length-runs}
 use Rattle.runs.specs.FormedLaws.{formed-to, formed-from, Room, room-runs}
-use Rattle.runs.specs.CallLaws.{line-pass, Kept, room-kept, outcome-exactly}
+use Rattle.runs.specs.CallLaws.{Kept, room-kept}
 use Rattle.runs.specs.AddLaws.{added-accepts, added-rising, added-exactly}
 
 -- what withdrawing asks for
@@ -62,15 +63,15 @@ module _ (w : List ℕ) (i : ℕ) where
   -- DEMAND 1 of withdrawing
   pub withdrawn-exactly : (k p : ℕ) → (withdrawn w i .verdict ≡ refused k p) ↔ Exactly k p (withdrawChecks w i)
   unfolding withdrawn isRising
-  withdrawn-exactly = outcome-exactly (withdrawChecks w i) w (encode (length w) (samples w) (deleteRun i (runs w))) (ap isRising withdrawn-numbers)
+  withdrawn-exactly = refused-exactly (withdrawChecks w i) (ap isRising withdrawn-numbers)
 
   pub withdrawn-unchanged : (k p : ℕ) → withdrawn w i .verdict ≡ refused k p → withdrawn w i .words ≡ w
   unfolding withdrawn
-  withdrawn-unchanged k p e = rw e
+  withdrawn-unchanged = outcome-refused (withdrawChecks w i) w (encode (length w) (samples w) (deleteRun i (runs w)))
 
   pub withdrawn-words : withdrawn w i .verdict ≡ accepted → withdrawn w i .words ≡ encode (length w) (samples w) (deleteRun i (runs w))
   unfolding withdrawn
-  withdrawn-words e = rw e
+  withdrawn-words = outcome-accepted (withdrawChecks w i) w (encode (length w) (samples w) (deleteRun i (runs w)))
 
   -- the checks that are left where the study is known to be well formed
   pub withdrawn-formed : wellFormed w ≡ true → withdrawChecks w i ⊳ accepted ≡ withdrawFormedChecks w i ⊳ accepted

@@ -147,11 +147,14 @@ exactly-given (b ∷ cs) k p e c (List·Memᴰ·head q) a f g = here (ap (λ (x 
 exactly-given (b ∷ cs) k p e c (List·Memᴰ·tail m) a f g = later (g b (List·Memᴰ·head refl) (omega (arith, rising-less b cs e c m)))
     (exactly-given cs k p (rising-tail b cs e) c m a f (λ d i. g d (List·Memᴰ·tail i)))
 
+pub accepted-other : (k p : ℕ) → accepted ≡ refused k p → ⊥
+accepted-other k p e = let z : _≡_ {A = ℕ} 0 1 = cc in omega arith
+
 -- THE CHAIN LAW: a number is given exactly when its check applies and every earlier one passes
-pub refused-exactly : (cs : List Check) (v : Verdict) (k p : ℕ) → isRising (numbers cs) ≡ true → (v ≡ refused k p → ⊥) → (cs ⊳ v ≡ refused k p) ↔ Exactly k p cs
-refused-exactly cs v k p e x = (
-  λ q. given-exactly cs k p e (chain-given cs v k p x q),
-  λ w. given-chain cs v k p (exactly-given cs k p e (w .check) (w .listed) (w .number) (w .applies) (w .earlier)),
+pub refused-exactly : (cs : List Check) → isRising (numbers cs) ≡ true → (k p : ℕ) → (cs ⊳ accepted ≡ refused k p) ↔ Exactly k p cs
+refused-exactly cs e k p = (
+  λ q. given-exactly cs k p e (chain-given cs accepted k p (accepted-other k p) q),
+  λ w. given-chain cs accepted k p (exactly-given cs k p e (w .check) (w .listed) (w .number) (w .applies) (w .earlier)),
 )
 
 rising-unique : (cs : List Check) → isRising (numbers cs) ≡ true → (c d : Check) → List·Memᴰ c cs → List·Memᴰ d cs → c .number ≡ d .number → c ≡ d
@@ -171,3 +174,14 @@ place-lowest k t a b p = (first-lowest t a b p, lowest-first t a b p)
 pub line-passes : (k : ℕ) (b : Bool) → line k b .fault ≡ nowhere → b ≡ false
 line-passes k true e = cc
 line-passes k false e = refl
+
+pub line-pass : (k : ℕ) (b : Bool) → b ≡ false → line k b .fault ≡ nowhere
+line-pass k b e = rw e
+
+pub passed-append : (cs ds : List Check) → Passed cs → Passed ds → Passed (cs ++ ds)
+passed-append [] ds h k = k
+passed-append (c ∷ cs) ds h k = (h .0, passed-append cs ds (h .1) k)
+
+pub passed-split : (cs ds : List Check) → Passed (cs ++ ds) → Passed cs × Passed ds
+passed-split [] ds h = (tt, h)
+passed-split (c ∷ cs) ds h = let t = passed-split cs ds (h .1) in ((h .0, t .0), t .1)

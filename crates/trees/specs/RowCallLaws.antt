@@ -18,7 +18,7 @@ use Rattle.trees.specs.Numbering.{renumbered}
 use Rattle.trees.specs.Comparing.{compared}
 use Rattle.trees.specs.RowCalls.{check3Both, renumberChecks, renumbering, movedPlace, moved, compareChecks, comparing}
 use Rattle.trees.specs.BoolLaws.{or-none}
-use Rattle.trees.specs.ChainLaws.{chain-passed, isRising, Exactly, refused-exactly, Given, here, later, chain-given, given-chain, line-passes}
+use Rattle.trees.specs.ChainLaws.{chain-passed, isRising, Exactly, accepted-other, refused-exactly, Given, here, later, chain-given, given-chain, line-passes}
 use Rattle.trees.specs.ListLaws.{first-lowest}
 use Rattle.trees.specs.CheckLaws.{outside-not}
 use Rattle.trees.specs.ValidLaws.{passed-valid}
@@ -38,7 +38,7 @@ module _ (n : ℕ) (r out : List ℕ) where
   -- DEMAND 1: a number is given exactly when its line applies and no line of a smaller number does
   pub renumbering-exactly : (k p : ℕ) → (renumbering n r out .verdict ≡ refused k p) ↔ Exactly k p (renumberChecks n r out)
   unfolding renumbering renumberChecks rowChecks isRising
-  renumbering-exactly k p = refused-exactly (renumberChecks n r out) accepted k p refl (λ e. let z : _≡_ {A = ℕ} 0 1 = cc in omega arith)
+  renumbering-exactly = refused-exactly (renumberChecks n r out) refl
 
   -- and no word of `out` differs then
   pub renumbering-refused : (k p : ℕ) → renumbering n r out .verdict ≡ refused k p → renumbering n r out .words ≡ out
@@ -118,7 +118,7 @@ at-below k b t a c h p e = omega (arith, first-lowest t a c p e .to)
 
 pub row-place : (n : ℕ) (r : List ℕ) (k p : ℕ) → fewestSamples ≤ n → rowChecks n r ⊳ accepted ≡ refused k p → p < rowWords n
 unfolding rowChecks
-row-place n r k p h e = go (chain-given (rowChecks n r) accepted k p (λ q. let z : _≡_ {A = ℕ} 0 1 = cc in omega arith) e)
+row-place n r k p h e = go (chain-given (rowChecks n r) accepted k p (accepted-other k p) e)
   where
     rest : nodes r ≤ rowWords n - 1 → AllBelow (rowWords n) (check6 n r ∷ check7 n r ∷ check8 n r ∷ check9 n r ∷ check10 n r ∷ [])
     rest m = (

@@ -102,7 +102,7 @@ module _ (n : ℕ) (r : List ℕ) where
 
   pub judged-exactly : (k p : ℕ) → (judged n r ≡ refused k p) ↔ Exactly k p (judgeChecks n r)
   unfolding judged
-  judged-exactly k p = refused-exactly (judgeChecks n r) accepted k p (judged-rising n r) (λ e. let z : _≡_ {A = ℕ} 0 1 = cc in omega arith)
+  judged-exactly = refused-exactly (judgeChecks n r) (judged-rising n r)
 
   listed6 : List·Memᴰ (check6 n r) (judgeChecks n r)
   unfolding judgeChecks rowChecks
