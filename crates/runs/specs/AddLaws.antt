@@ -34,6 +34,11 @@ judged-passed : (n : ℕ) (r : List ℕ) → Passed (judgeChecks n r) → judged
 unfolding judged
 judged-passed n r h = passed-chain (judgeChecks n r) accepted h
 
+-- an add puts its run among those in force: under its identifier it is found, and every other as before
+with-find : (w : List ℕ) (i : ℕ) (row : List ℕ) → Absent i (runs w) → (j : ℕ)
+    → find j (runsWith w i row) ≡ cond (eqb j i) (some (stores (samples w) i row)) (find j (runs w))
+with-find w i row a j = find-insert j (stores (samples w) i row) (runs w) a
+
 -- what adding asks for
 pub record Adds (w : List ℕ) (i : ℕ) (row : List ℕ) : Type 0 where
   pub formed : Formed w
@@ -134,7 +139,7 @@ module _ (w : List ℕ) (i : ℕ) (row : List ℕ) where
 
     -- an identifier is found after an add as before it, but for the add's own
     pub added-find : (j : ℕ) → find j (runs (added w i row .words)) ≡ cond (eqb j i) (some (stores (samples w) i row)) (find j (runs w))
-    added-find j = rw added-runs (find-insert j (stores n i row) (runs w) (a .absent))
+    added-find j = rw added-runs (with-find w i row (a .absent) j)
 
 -- FROM DEMAND 2: an accepted run is stored under its identifier, with exactly the groups it came with
 pub added-stored : (w : List ℕ) (i : ℕ) (row : List ℕ) → i ≤ mostIdentifier → added w i row .verdict ≡ accepted
