@@ -12,6 +12,7 @@ use lib.ListN.{length}
 use borrow.Author.Tests.{eqb-true, eqb-false, ltb-true, ltb-false, lt-ltb, le-ltb, eq-eqb, ne-eqb}
 use Rattle.trees.specs.Reporting.{Run}
 use Rattle.trees.specs.BoolLaws.{and-l, and-r, and-both, decide}
+use Rattle.trees.specs.NeverLaws.{Tri, less, equal, more, tri}
 use Rattle.runs.specs.Runs.{every, rising, find, isSome, present, insertRun, deleteRun}
 use Rattle.runs.specs.Formed.{Rising}
 
@@ -126,26 +127,13 @@ rising-weaken : (b c : ℕ) (rs : List Run) → b ≤ c → Rising c rs → Risi
 rising-weaken b c [] l h = tt
 rising-weaken b c (r ∷ rs) l h = (omega arith, h .1)
 
-data Order (a b : ℕ) : Type 0 where
-  less : a < b → Order a b
-  even : a ≡ b → Order a b
-  more : b < a → Order a b
-
-order : (a b : ℕ) → Order a b
-order a b = go (decide (ltb a b)) (same? a b)
-  where
-    go : (ltb a b ≡ true) ⊎ (ltb a b ≡ false) → (a ≡ b) ⊎ (a ≡ b → ⊥) → Order a b
-    go (inl e) d = less (ltb-true a b e)
-    go (inr e) (inl q) = even q
-    go (inr e) (inr d) = more (let h : b ≤ a = ltb-false a b e in omega arith)
-
 -- RISING LISTS WITH EQUAL LOOK-UPS ARE EQUAL
 pub rising-unique : (b : ℕ) (xs ys : List Run) → Rising b xs → Rising b ys → ((i : ℕ) → find i xs ≡ find i ys) → xs ≡ ys
 unfolding find
 rising-unique b [] [] h k f = refl
 rising-unique b [] (y ∷ ys) h k f = absurd (absent-head (y .identifier) y ys (sym (f (y .identifier))) refl)
 rising-unique b (x ∷ xs) [] h k f = absurd (absent-head (x .identifier) x xs (f (x .identifier)) refl)
-rising-unique b (x ∷ xs) (y ∷ ys) h k f = go (order i j) (λ e. rising-unique i xs ys (h .1) (rw e (k .1)) (rest e))
+rising-unique b (x ∷ xs) (y ∷ ys) h k f = go (tri i j) (λ e. rising-unique i xs ys (h .1) (rw e (k .1)) (rest e))
   where
     i : ℕ
     i = x .identifier
@@ -162,9 +150,9 @@ rising-unique b (x ∷ xs) (y ∷ ys) h k f = go (order i j) (λ e. rising-uniqu
     heads : x .identifier ≡ y .identifier → x ≡ y
     heads e = Option·some-injective x y (sym (find-here i x xs refl) ∙ f i ∙ find-here i y ys e)
 
-    go : Order (x .identifier) (y .identifier) → (x .identifier ≡ y .identifier → xs ≡ ys) → x ∷ xs ≡ y ∷ ys
+    go : Tri (x .identifier) (y .identifier) → (x .identifier ≡ y .identifier → xs ≡ ys) → x ∷ xs ≡ y ∷ ys
     go (less l) r = absurd (absent-head i x xs (f i ∙ find-below i i (y ∷ ys) (l, k .1) (omega arith)) refl)
-    go (even e) r = cc (heads e, r e)
+    go (equal e) r = cc (heads e, r e)
     go (more l) r = absurd (absent-head j y ys (sym (f j) ∙ find-below j j (x ∷ xs) (l, h .1) (omega arith)) refl)
 
 -- ---- insertion of a run whose identifier is absent
@@ -188,7 +176,7 @@ find-insert i r (x ∷ xs) a =
 pub insert-rising : (b : ℕ) (r : Run) (xs : List Run) → b < r .identifier → Absent (r .identifier) xs → Rising b xs → Rising b (insertRun r xs)
 unfolding insertRun
 insert-rising b r [] l a h = (l, tt)
-insert-rising b r (x ∷ xs) l a h = go (order i j) (λ g. insert-rising j r xs g (absent-tail i x xs a) (h .1))
+insert-rising b r (x ∷ xs) l a h = go (tri i j) (λ g. insert-rising j r xs g (absent-tail i x xs a) (h .1))
   where
     i : ℕ
     i = r .identifier
@@ -196,10 +184,10 @@ insert-rising b r (x ∷ xs) l a h = go (order i j) (λ g. insert-rising j r xs 
     j : ℕ
     j = x .identifier
 
-    go : Order (r .identifier) (x .identifier) → (x .identifier < r .identifier → Rising (x .identifier) (insertRun r xs))
+    go : Tri (r .identifier) (x .identifier) → (x .identifier < r .identifier → Rising (x .identifier) (insertRun r xs))
         → Rising b (cond (ltb (r .identifier) (x .identifier)) (r ∷ x ∷ xs) (x ∷ insertRun r xs))
     go (less s) f = rw (lt-ltb (r .identifier) (x .identifier) s) (l, (s, h .1))
-    go (even e) f = absurd (absent-head (r .identifier) x xs a e)
+    go (equal e) f = absurd (absent-head (r .identifier) x xs a e)
     go (more g) f = rw (le-ltb (r .identifier) (x .identifier) (omega arith)) (h .0, f g)
 
 pub length-insert : (r : Run) (xs : List Run) → length (insertRun r xs) ≡ suc (length xs)
