@@ -18,10 +18,10 @@ use Rattle.trees.specs.BoolLaws.{not-yes}
 use Rattle.trees.specs.ListLaws.{length-tabulate, weigh-mono, weigh-append, count-all}
 use Rattle.trees.specs.GroupLaws.{aside, size-one, single-own, single-has, single-small, lowest-single}
 use Rattle.trees.specs.OrderLaws.{before-larger, before-falling}
-use Rattle.trees.specs.MemberLaws.{mem-in, member-append, member-filter, in-table, strict-ordered}
+use Rattle.trees.specs.MemberLaws.{mem-in, member-append, member-filter, in-table}
 use Rattle.trees.specs.MemberLaws.{strict-filter, strict-append, strict-table, strict-unique, ordered-same}
 use Rattle.trees.specs.RowLaws.{length-inner, in-inner, inner-two, groups-split}
-use Rattle.trees.specs.NumberingLaws.{member-set, renumbered-groups, row-tree}
+use Rattle.trees.specs.NumberingLaws.{set-strict, member-set, renumbered-groups, row-tree}
 
 count-filter : (t : Group → Bool) (gs : List Group) → count t gs ≡ length (filter t gs)
 unfolding weigh filter
@@ -41,10 +41,6 @@ count-not t (g ∷ gs) = go (t g) (count-not t gs)
         → (cond b 1 0 + count t gs) + (cond (not b) 1 0 + count (λ h. not (t h)) gs) ≡ length (g ∷ gs)
     go true h = omega arith
     go false h = omega arith
-
-set-strict : (n : ℕ) (r : List ℕ) → Strict (groupSet n r)
-unfolding groupSet
-set-strict n r = strict-ordered (groups n r)
 
 -- "groups in both rows" is one number
 pub shared-comm : (n : ℕ) (r q : List ℕ) → shared n r q ≡ shared n q r
@@ -84,7 +80,7 @@ singles-strict n = strict-table n (single n) 0 (λ v w h l i. two v w (omega ari
 pub set-standard : (n : ℕ) (r : List ℕ) → Standard n r → groupSet n r ≡ inner n r ++ tabulate n (single n) 0
 set-standard n r std = strict-unique (groupSet n r) (inner n r ++ tabulate n (single n) 0) (set-strict n r)
     (strict-append (inner n r) (tabulate n (single n) 0) (std .strict) (singles-strict n) (λ g h m k. before-larger g h (smaller g h m k)))
-    (λ x. member-set n r (std .valid) x ∙ ap (member x) (groups-split n r (std .valid)) ∙ member-append x (tabulate n (single n) 0) (inner n r)
+    (λ x. member-set n r x ∙ ap (member x) (groups-split n r (std .valid)) ∙ member-append x (tabulate n (single n) 0) (inner n r)
     ∙ or-comm (member x (tabulate n (single n) 0)) (member x (inner n r)) ∙ sym (member-append x (inner n r) (tabulate n (single n) 0)))
   where
     smaller : (g h : Group) → In g (inner n r) → In h (tabulate n (single n) 0) → size h < size g
@@ -108,7 +104,7 @@ count-same p q xs h = le-antisymm (weigh-mono (λ x. 1) p q xs (λ x m e. sym (h
 pub shared-standard : (n : ℕ) (r q : List ℕ) → Standard n r → Standard n q → shared n r q ≡ count (λ v. holds n (groupAt n r v) q) (range n (nodes r)) + n
 unfolding inner
 shared-standard n r q a b =
-    count-same (λ g. member g (groupSet n q)) t (groupSet n r) (member-set n q (b .valid))
+    count-same (λ g. member g (groupSet n q)) t (groupSet n r) (member-set n q)
     ∙ ap (count t) (set-standard n r a) ∙ weigh-append (λ g. 1) t (inner n r) (tabulate n (single n) 0)
     ∙ (rw (count-tabulate t (nodes r - n) (groupAt n r) n, count-all t (tabulate n (single n) 0) all-single ∙ length-tabulate n (single n) 0) refl)
   where

@@ -53,21 +53,22 @@ tree-same n gs hs e t = record {
 
 -- ---- the row of a tree's groups in order
 
+module _ (gs : List Group) (g : Group) where
+  in-branching : In g (branching gs) → (2 ≤ size g) × In g gs
+  in-branching m = let e : leb 2 (size g) && member g gs ≡ true = sym (member-filter g (λ h. leb 2 (size h)) gs) ∙ m in
+      (leb-true 2 (size g) (and-l (leb 2 (size g)) (member g gs) e), and-r (leb 2 (size g)) (member g gs) e)
+
+  branching-in : 2 ≤ size g → In g gs → In g (branching gs)
+  branching-in z m = member-filter g (λ h. leb 2 (size h)) gs ∙ and-both (leb 2 (size g)) (member g gs) (le-leb 2 (size g) z) m
+
 module _ (n : ℕ) (gs : List Group) (tree : Tree n gs) (strict : Strict gs) (least : fewestSamples ≤ n) (most : n ≤ mostSamples) where
-  in-branching : (g : Group) → In g (branching gs) → (2 ≤ size g) × In g gs
-  in-branching g m = let e : leb 2 (size g) && member g gs ≡ true = sym (member-filter g (λ h. leb 2 (size h)) gs)
-      ∙ m in (leb-true 2 (size g) (and-l (leb 2 (size g)) (member g gs) e), and-r (leb 2 (size g)) (member g gs) e)
-
-  branching-in : (g : Group) → 2 ≤ size g → In g gs → In g (branching gs)
-  branching-in g z m = member-filter g (λ h. leb 2 (size h)) gs ∙ and-both (leb 2 (size g)) (member g gs) (le-leb 2 (size g) z) m
-
   pub tree-family : Family n (branching gs)
   tree-family = record {
     strict = strict-filter (λ g. leb 2 (size g)) gs strict;
-    long = λ g m. tree .long g (in-branching g m .1);
-    big = λ g m. in-branching g m .0;
-    agree = λ g h m k. tree .agree g h (in-branching g m .1) (in-branching h k .1);
-    top = branching-in (whole n) (omega (arith, size-whole n)) (tree .top);
+    long = λ g m. tree .long g (in-branching gs g m .1);
+    big = λ g m. in-branching gs g m .0;
+    agree = λ g h m k. tree .agree g h (in-branching gs g m .1) (in-branching gs h k .1);
+    top = branching-in gs (whole n) (omega (arith, size-whole n)) (tree .top);
   }
 
   pub tree-standard : Standard n (rowOf n (branching gs))
@@ -76,13 +77,13 @@ module _ (n : ℕ) (gs : List Group) (tree : Tree n gs) (strict : Strict gs) (le
   -- the row has exactly these groups, single samples and the whole among them
   pub tree-groups : (x : Group) → member x (groups n (rowOf n (branching gs))) ≡ member x gs
   tree-groups x = rw (groups-split n (rowOf n (branching gs)) (tree-standard .valid), planted n (branching gs) tree-family most, member-append)
-      (true-eq _ _ (λ e. ⊎-elim one (λ m. in-branching x m .1) (or-cases (member x (tabulate n (single n) 0)) (member x (branching gs)) e)) two)
+      (true-eq _ _ (λ e. ⊎-elim one (λ m. in-branching gs x m .1) (or-cases (member x (tabulate n (single n) 0)) (member x (branching gs)) e)) two)
     where
       one : In x (tabulate n (single n) 0) → In x gs
       one m = let t = in-table n (single n) 0 x m in rw (← (t .3)) (tree .leaf (t .0) (omega arith))
 
       two : In x gs → member x (tabulate n (single n) 0) || member x (branching gs) ≡ true
-      two m = ⊎-elim single-one (λ z. or-r (member x (tabulate n (single n) 0)) (member x (branching gs)) (branching-in x z m))
+      two m = ⊎-elim single-one (λ z. or-r (member x (tabulate n (single n) 0)) (member x (branching gs)) (branching-in gs x z m))
           (eq-or-lt-of-le (tree .full x m))
         where
           single-one : 1 ≡ size x → member x (tabulate n (single n) 0) || member x (branching gs) ≡ true
@@ -93,12 +94,8 @@ module _ (n : ℕ) (gs : List Group) (tree : Tree n gs) (strict : Strict gs) (le
 
 -- ---- renumbering
 
-module _ (n : ℕ) (r : List ℕ) (ok : Valid n r) where
-  set-tree : Tree n (groupSet n r)
-  unfolding groupSet
-  set-tree = tree-same n (groups n r) (ordered (groups n r)) (λ x. member-ordered x (groups n r)) (row-tree n r ok)
-
-  set-strict : Strict (groupSet n r)
+module _ (n : ℕ) (r : List ℕ) where
+  pub set-strict : Strict (groupSet n r)
   unfolding groupSet
   set-strict = strict-ordered (groups n r)
 
@@ -106,18 +103,23 @@ module _ (n : ℕ) (r : List ℕ) (ok : Valid n r) where
   unfolding groupSet
   member-set x = member-ordered x (groups n r)
 
+module _ (n : ℕ) (r : List ℕ) (ok : Valid n r) where
+  set-tree : Tree n (groupSet n r)
+  unfolding groupSet
+  set-tree = tree-same n (groups n r) (ordered (groups n r)) (λ x. member-ordered x (groups n r)) (row-tree n r ok)
+
   pub renumbered-standard : Standard n (renumbered n r)
   unfolding renumbered
-  renumbered-standard = tree-standard n (groupSet n r) set-tree set-strict (ok .least) (ok .most)
+  renumbered-standard = tree-standard n (groupSet n r) set-tree (set-strict n r) (ok .least) (ok .most)
 
   pub renumbered-inner : inner n (renumbered n r) ≡ branching (groupSet n r)
   unfolding renumbered
-  renumbered-inner = planted n (branching (groupSet n r)) (tree-family n (groupSet n r) set-tree set-strict (ok .least) (ok .most)) (ok .most)
+  renumbered-inner = planted n (branching (groupSet n r)) (tree-family n (groupSet n r) set-tree (set-strict n r) (ok .least) (ok .most)) (ok .most)
 
   -- exactly the groups are kept
   pub renumbered-groups : (x : Group) → member x (groups n (renumbered n r)) ≡ member x (groups n r)
   unfolding renumbered
-  renumbered-groups x = tree-groups n (groupSet n r) set-tree set-strict (ok .least) (ok .most) x ∙ member-set x
+  renumbered-groups x = tree-groups n (groupSet n r) set-tree (set-strict n r) (ok .least) (ok .most) x ∙ member-set n r x
 
 -- it depends on the set of groups alone
 pub renumbered-same : (n : ℕ) (r q : List ℕ) → ((x : Group) → member x (groups n r) ≡ member x (groups n q)) → renumbered n r ≡ renumbered n q
@@ -132,7 +134,7 @@ pub standard-renumbered : (n : ℕ) (r : List ℕ) → Standard n r → renumber
 unfolding renumbered
 standard-renumbered n r std = ap (rowOf n)
     (strict-unique (branching (groupSet n r)) (inner n r)
-    (tree-family n (groupSet n r) (set-tree n r ok) (set-strict n r ok) (ok .least) (ok .most) .strict) (std .strict) same-members)
+    (tree-family n (groupSet n r) (set-tree n r ok) (set-strict n r) (ok .least) (ok .most) .strict) (std .strict) same-members)
     ∙ standard-row n r std
   where
     ok : Valid n r
@@ -143,18 +145,18 @@ standard-renumbered n r std = ap (rowOf n)
       where
         to : In x (branching (groupSet n r)) → In x (inner n r)
         to m =
-            let t = in-branching n (groupSet n r) (set-tree n r ok) (set-strict n r ok) (ok .least) (ok .most) x m in
+            let t = in-branching (groupSet n r) x m in
             ⊎-elim (λ e. absurd (few (t .0) e)) (λ k. k)
             (or-cases (member x (tabulate n (single n) 0)) (member x (inner n r))
-            (sym (member-append x (tabulate n (single n) 0) (inner n r)) ∙ (rw (groups-split n r ok) at (sym (member-set n r ok x) ∙ t .1))))
+            (sym (member-append x (tabulate n (single n) 0) (inner n r)) ∙ (rw (groups-split n r ok) at (sym (member-set n r x) ∙ t .1))))
           where
             few : 2 ≤ size x → In x (tabulate n (single n) 0) → ⊥
             few z i = let u = in-table n (single n) 0 x i in omega (arith, single-small n (u .0), ap size (u .3))
 
         from : In x (inner n r) → In x (branching (groupSet n r))
         from m = let t = in-inner n r x m in
-            branching-in n (groupSet n r) (set-tree n r ok) (set-strict n r ok) (ok .least) (ok .most) x
-            (rw (← (t .3)) (inner-two n r ok (t .0) (t .1) (t .2))) (member-set n r ok x ∙ (rw (← (t .3)) (groups-in n r (t .0) (t .2))))
+            branching-in (groupSet n r) x
+            (rw (← (t .3)) (inner-two n r ok (t .0) (t .1) (t .2))) (member-set n r x ∙ (rw (← (t .3)) (groups-in n r (t .0) (t .2))))
 
 -- "the tree exists and is unique": two standard rows with equal groups are equal
 pub standard-unique : (n : ℕ) (r q : List ℕ) → Standard n r → Standard n q → ((x : Group) → member x (groups n r) ≡ member x (groups n q)) → r ≡ q

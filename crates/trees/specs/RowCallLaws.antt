@@ -18,7 +18,8 @@ use Rattle.trees.specs.Numbering.{renumbered}
 use Rattle.trees.specs.Comparing.{compared}
 use Rattle.trees.specs.RowCalls.{check3Both, renumberChecks, renumbering, movedPlace, moved, compareChecks, comparing}
 use Rattle.trees.specs.BoolLaws.{or-none}
-use Rattle.trees.specs.ChainLaws.{chain-passed, isRising, Exactly, accepted-other, refused-exactly, Given, here, later, chain-given, given-chain, line-passes}
+use Rattle.trees.specs.ChainLaws.{chain-passed, isRising, Exactly, accepted-other, refused-exactly, Given}
+use Rattle.trees.specs.ChainLaws.{here, later, chain-given, given-chain, line-passes}
 use Rattle.trees.specs.ListLaws.{first-lowest}
 use Rattle.trees.specs.CheckLaws.{outside-not}
 use Rattle.trees.specs.ValidLaws.{passed-valid}
