@@ -263,6 +263,24 @@ module _ {n : ℕ} {a : List ℕ} {keepA : List Bool} {b : List ℕ} {keepB : Li
       abbrev gb : Group
       gb = groupAt n b y
 
+      full-a : x < nodes a → 0 < size ga
+      full-a = full (ok .first) keepA x (lock .left .low)
+
+      full-b : y < nodes b → 0 < size gb
+      full-b = full (ok .second) keepB y (lock .right .low)
+
+      rank-a : x < nodes a → p ≡ groupRank n ga
+      rank-a = rank-in (ok .first) keepA ka x (lock .left .low)
+
+      rank-b : y < nodes b → q ≡ groupRank n gb
+      rank-b = rank-in (ok .second) keepB kb y (lock .right .low)
+
+      later-a : x < nodes a → Leads ga (keptFrom n a keepA (suc x))
+      later-a = leads-later (ok .first) keepA x (lock .left .low)
+
+      later-b : y < nodes b → Leads gb (keptFrom n b keepB (suc y))
+      later-b = leads-later (ok .second) keepB y (lock .right .low)
+
       agrees : x < nodes a → y < nodes b → Agree ga gb
       agrees h k = ok .agree ga gb (kept-in n a keepA n x (lock .left .low) h (lock .left .kept h))
           (kept-in n b keepB n y (lock .right .low) k (lock .right .kept k))
@@ -270,36 +288,33 @@ module _ {n : ℕ} {a : List ℕ} {keepA : List Bool} {b : List ℕ} {keepB : Li
       first-leads : p < q → x < nodes a → Leads ga (keptFrom n b keepB y)
       first-leads e h = leads-from (ok .second) keepB ga y (lock .right .low)
           (λ k. rank-ahead n (ok .first .valid .most) ga gb (length-group n a x) (length-group n b y) (agrees h k)
-          (full (ok .first) keepA x (lock .left .low) h) (full (ok .second) keepB y (lock .right .low) k)
-          (omega (arith, rank-in (ok .first) keepA ka x (lock .left .low) h, rank-in (ok .second) keepB kb y (lock .right .low) k)))
+          (full-a h) (full-b k) (omega (arith, rank-a h, rank-b k)))
 
       second-leads : q < p → y < nodes b → Leads gb (keptFrom n a keepA x)
       second-leads e k = leads-from (ok .first) keepA gb x (lock .left .low)
           (λ h. rank-ahead n (ok .first .valid .most) gb ga (length-group n b y) (length-group n a x) (agree-sym ga gb (agrees h k))
-          (full (ok .second) keepB y (lock .right .low) k) (full (ok .first) keepA x (lock .left .low) h)
-          (omega (arith, rank-in (ok .first) keepA ka x (lock .left .low) h, rank-in (ok .second) keepB kb y (lock .right .low) k)))
+          (full-b k) (full-a h) (omega (arith, rank-a h, rank-b k)))
 
       both-one : p ≡ q → x < nodes a → y < nodes b → ga ≡ gb
       both-one e h k = rank-one n (ok .first .valid .most) ga gb (length-group n a x) (length-group n b y) (agrees h k)
-          (full (ok .first) keepA x (lock .left .low) h) (full (ok .second) keepB y (lock .right .low) k)
-          (sym (rank-in (ok .first) keepA ka x (lock .left .low) h) ∙ e ∙ rank-in (ok .second) keepB kb y (lock .right .low) k)
+          (full-a h) (full-b k) (sym (rank-a h) ∙ e ∙ rank-b k)
 
       -- what is left, taken apart at its first group
 
       head-first : p < q → x < nodes a → drop (c - n) gs ≡ ga ∷ ordered (keptFrom n a keepA (suc x) ++ keptFrom n b keepB y)
       head-first e h = lock .rest ∙ ap (λ (xs : List Group). ordered (xs ++ keptFrom n b keepB y)) (kept-cons n a keepA x h (lock .left .kept h))
-          ∙ take-first ga (keptFrom n a keepA (suc x)) (keptFrom n b keepB y) (leads-later (ok .first) keepA x (lock .left .low) h) (first-leads e h)
+          ∙ take-first ga (keptFrom n a keepA (suc x)) (keptFrom n b keepB y) (later-a h) (first-leads e h)
 
       head-second : q < p → y < nodes b → drop (c - n) gs ≡ gb ∷ ordered (keptFrom n a keepA x ++ keptFrom n b keepB (suc y))
       head-second e k = lock .rest ∙ ap (λ (ys : List Group). ordered (keptFrom n a keepA x ++ ys)) (kept-cons n b keepB y k (lock .right .kept k))
-          ∙ take-second gb (keptFrom n a keepA x) (keptFrom n b keepB (suc y)) (second-leads e k) (leads-later (ok .second) keepB y (lock .right .low) k)
+          ∙ take-second gb (keptFrom n a keepA x) (keptFrom n b keepB (suc y)) (second-leads e k) (later-b k)
 
       head-both : p ≡ q → x < nodes a → y < nodes b → drop (c - n) gs ≡ ga ∷ ordered (keptFrom n a keepA (suc x) ++ keptFrom n b keepB (suc y))
       head-both e h k = lock .rest ∙ ap (λ (xs : List Group). ordered (xs ++ keptFrom n b keepB y)) (kept-cons n a keepA x h (lock .left .kept h))
           ∙ ap (λ (ys : List Group). ordered ((ga ∷ keptFrom n a keepA (suc x)) ++ ys))
           (kept-cons n b keepB y k (lock .right .kept k) ∙ ap (λ (g : Group). g ∷ keptFrom n b keepB (suc y)) (sym (both-one e h k)))
-          ∙ take-both ga (keptFrom n a keepA (suc x)) (keptFrom n b keepB (suc y)) (leads-later (ok .first) keepA x (lock .left .low) h)
-          (subst (λ (g : Group). Leads g (keptFrom n b keepB (suc y))) (sym (both-one e h k)) (leads-later (ok .second) keepB y (lock .right .low) k))
+          ∙ take-both ga (keptFrom n a keepA (suc x)) (keptFrom n b keepB (suc y)) (later-a h)
+          (subst (λ (g : Group). Leads g (keptFrom n b keepB (suc y))) (sym (both-one e h k)) (later-b k))
 
       -- which nodes there are
 
@@ -307,12 +322,12 @@ module _ {n : ℕ} {a : List ℕ} {keepA : List Bool} {b : List ℕ} {keepB : Li
         first-there : p ≤ q → x < nodes a
         first-there e = ⊎-elim (λ h. ltb-true x (nodes a) h)
             (λ h. let k = ltb-true y (nodes b) h in rank-node (ok .first) keepA za la x
-            (omega (arith, rank-in (ok .second) keepB kb y (lock .right .low) k, rank-short (ok .second) keepB y (lock .right .low) k)))
+            (omega (arith, rank-b k, rank-short (ok .second) keepB y (lock .right .low) k)))
             (or-cases (ltb x (nodes a)) (ltb y (nodes b)) left)
 
         second-there : q ≤ p → y < nodes b
         second-there e = ⊎-elim (λ h. let k = ltb-true x (nodes a) h in rank-node (ok .second) keepB zb lb y
-            (omega (arith, rank-in (ok .first) keepA ka x (lock .left .low) k, rank-short (ok .first) keepA x (lock .left .low) k)))
+            (omega (arith, rank-a k, rank-short (ok .first) keepA x (lock .left .low) k)))
             (λ h. ltb-true y (nodes b) h)
             (or-cases (ltb x (nodes a)) (ltb y (nodes b)) left)
 
@@ -338,12 +353,12 @@ module _ {n : ℕ} {a : List ℕ} {keepA : List Bool} {b : List ℕ} {keepB : Li
         node-fits r v s h = omega (arith, s .valid .high, s .valid .most)
 
         lowest-first : p ≤ q → x < nodes a → min p q % rankStep ≡ lowest ga
-        lowest-first e h = rw (min-eq-left e, rank-in (ok .first) keepA ka x (lock .left .low) h)
-            (rank-lowest n (ok .first .valid .most) ga (length-group n a x) (full (ok .first) keepA x (lock .left .low) h))
+        lowest-first e h = rw (min-eq-left e, rank-a h)
+            (rank-lowest n (ok .first .valid .most) ga (length-group n a x) (full-a h))
 
         lowest-second : q ≤ p → y < nodes b → min p q % rankStep ≡ lowest gb
-        lowest-second e k = rw (min-eq-right e, rank-in (ok .second) keepB kb y (lock .right .low) k)
-            (rank-lowest n (ok .first .valid .most) gb (length-group n b y) (full (ok .second) keepB y (lock .right .low) k))
+        lowest-second e k = rw (min-eq-right e, rank-b k)
+            (rank-lowest n (ok .first .valid .most) gb (length-group n b y) (full-b k))
 
         pub lock-step : {first second : Bool} {low x' y' : ℕ} {numA' numB' : List ℕ} → Chosen p q first second low
             → Given numA keepA x (nodes a) c first numA' x' → Given numB keepB y (nodes b) c second numB' y'
