@@ -4,7 +4,8 @@ ghost use Prim.Native.Nat.{ℕ, _+_, _<_, _≤_};
 ghost use lib.ListN.{length};
 ghost use Rattle.trees.specs.Lists.{range, count};
 ghost use Rattle.trees.specs.Rows.{nodes, parent, childOf, ends};
-ghost use Rattle.trees.specs.Checks.{accepted, _⊳_, asked, line, stray, fewestSamples, mostSamples, rowWords, check1, check3, check5, check6, check7, check8, check9, check10, rowChecks, judged};
+ghost use Rattle.trees.specs.Checks.{accepted, _⊳_, asked, line, stray, fewestSamples, mostSamples, rowWords};
+ghost use Rattle.trees.specs.Checks.{check1, check3, check5, check6, check7, check8, check9, check10, rowChecks, judged};
 ghost use Rattle.trees.specs.RowCalls.{check3Both};
 ghost use Rattle.trees.specs.WayLaws.{Closed};
 ghost use Rattle.judge.specs.Verdicts.{verdict};
@@ -177,7 +178,7 @@ fn roots(n: usize, row: &[u16]) -> Answer
 }
 
 // Check 8: "filler not 0", at the "lowest such word".
-fn filler(n: usize, row: &[u16]) -> Answer
+pub fn filler(n: usize, row: &[u16]) -> Answer
     requires { ⌜ (nodes (now row) < length (now row)) × (length (now row) ≡ rowWords n) ⌝ }
     ensures { λ r. ⌜ verdict r ≡ asked (check8 n (now (row .entry))) ⌝ }
 {

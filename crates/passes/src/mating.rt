@@ -10,6 +10,7 @@ ghost use Rattle.trees.specs.Tables.{Tabled, tableWords, entry, Keys, Most, lea
 ghost use Rattle.trees.specs.Passes.{Ranked};
 ghost use Rattle.trees.specs.Mates.{mateOf, candidate, candidateOf, fitting, confirmed, fromEnd, Tables, Spread};
 use crate::pass::TABLE;
+use crate::pass::Table;
 use crate::pass::least;
 use crate::pass::rank;
 use crate::pass::ranks;
@@ -21,7 +22,7 @@ use judge::wide;
 pub const NO_MATE: u16 = 0;
 
 // The first node from b on whose rank is k or more, or else m.
-fn advance(n: usize, m: usize, size: &[u16; TABLE], low: &[u16; TABLE], b: usize, k: usize) -> usize
+fn advance(n: usize, m: usize, size: &Table, low: &Table, b: usize, k: usize) -> usize
     requires { ⌜ (n ≤ mostSamples) × (b ≤ m) × (m ≤ tableWords) × Most n m (now size) ⌝ }
     ensures { λ r. ⌜ r ≡ candidate (rankIn n (now (size .entry)) (now (low .entry))) b m k ⌝ }
 {
@@ -39,12 +40,12 @@ fn advance(n: usize, m: usize, size: &[u16; TABLE], low: &[u16; TABLE], b: usize
 fn candidates(
     n: usize,
     reference: &[u16],
-    size: &[u16; TABLE],
-    low: &[u16; TABLE],
+    size: &Table,
+    low: &Table,
     row: &[u16],
-    other: &[u16; TABLE],
-    lowest: &[u16; TABLE],
-    mate: &mut [u16; TABLE],
+    other: &Table,
+    lowest: &Table,
+    mate: &mut Table,
 )
     requires { ⌜ Standard n (now reference) × Ranked n (now reference) (now size) (now low) × Standard n (now row)
         × Ranked n (now row) (now other) (now lowest) × (length (now mate) ≡ tableWords) ⌝ }
@@ -77,9 +78,9 @@ fn confirm(
     size: u16,
     start: u16,
     m: usize,
-    other: &[u16; TABLE],
-    first: &[u16; TABLE],
-    last: &[u16; TABLE],
+    other: &Table,
+    first: &Table,
+    last: &Table,
     b: u16,
 ) -> u16
     requires { ⌜ (n ≤ mostSamples) × (m ≤ tableWords) ⌝ }
@@ -98,13 +99,13 @@ fn confirm(
 fn confirmations(
     n: usize,
     reference: &[u16],
-    size: &[u16; TABLE],
-    start: &[u16; TABLE],
+    size: &Table,
+    start: &Table,
     row: &[u16],
-    other: &[u16; TABLE],
-    first: &[u16; TABLE],
-    last: &[u16; TABLE],
-    mate: &mut [u16; TABLE],
+    other: &Table,
+    first: &Table,
+    last: &Table,
+    mate: &mut Table,
 )
     requires { ⌜ Standard n (now reference) × Standard n (now row)
         × Spread n (now reference) (now row) (now size) (now start) (now other) (now first) (now last)
@@ -130,7 +131,7 @@ fn from_end(n: usize, place: u16) -> u16
 }
 
 // Each sample's place, counted from the end.
-fn ends(n: usize, start: &[u16; TABLE], t: &mut [u16; TABLE])
+fn ends(n: usize, start: &Table, t: &mut Table)
     requires { ⌜ (n ≤ mostSamples) × Keys n (now start) × (length (now t) ≡ tableWords) ⌝ }
     ensures { λ _. ⌜ Tabled (fromEnd n (entry (now (start .entry)))) 0 n (now (t .exit)) ⌝ }
 {
@@ -142,35 +143,23 @@ fn ends(n: usize, start: &[u16; TABLE], t: &mut [u16; TABLE])
 }
 
 // The first and the last place of each node's group, by the places of a reference row; the last is counted from the end.
-fn spread(
-    n: usize,
-    row: &[u16],
-    start: &[u16; TABLE],
-    first: &mut [u16; TABLE],
-    last: &mut [u16; TABLE],
-)
+fn spread(n: usize, row: &[u16], start: &Table, first: &mut Table, last: &mut Table)
     requires { ⌜ Falls n (now row) × Keys n (now start) × (length (now first) ≡ tableWords) × (length (now last) ≡ tableWords) ⌝ }
     ensures { λ _. ⌜ Tabled (leastAt n (now (row .entry)) (entry (now (start .entry)))) 0 (nodes (now (row .entry))) (now (first .exit))
         × Tabled (leastAt n (now (row .entry)) (fromEnd n (entry (now (start .entry))))) 0 (nodes (now (row .entry))) (now (last .exit)) ⌝ }
 {
-    let mut end: [u16; TABLE] = [0; TABLE];
+    let mut end: Table = [0; TABLE];
     least(n, row, start, first);
     ends(n, start, &mut end);
     least(n, row, &end, last);
 }
 
 // The tables of a reference row, made once for many calls of `mates`: sizes, smallest samples, and starts of intervals.
-pub fn tables(
-    n: usize,
-    reference: &[u16],
-    size: &mut [u16; TABLE],
-    low: &mut [u16; TABLE],
-    start: &mut [u16; TABLE],
-)
+pub fn tables(n: usize, reference: &[u16], size: &mut Table, low: &mut Table, start: &mut Table)
     requires { ⌜ Standard n (now reference) × (length (now size) ≡ tableWords) × (length (now low) ≡ tableWords) × (length (now start) ≡ tableWords) ⌝ }
     ensures { λ _. ⌜ Tables n (now (reference .entry)) (now (size .exit)) (now (low .exit)) (now (start .exit)) ⌝ }
 {
-    let mut off: [u16; TABLE] = [0; TABLE];
+    let mut off: Table = [0; TABLE];
     ranks(n, reference, size, &mut off, low);
     starts(n, reference, &off, start);
 }
@@ -179,22 +168,22 @@ pub fn tables(
 pub fn mates(
     n: usize,
     reference: &[u16],
-    size: &[u16; TABLE],
-    low: &[u16; TABLE],
-    start: &[u16; TABLE],
+    size: &Table,
+    low: &Table,
+    start: &Table,
     row: &[u16],
-    mate: &mut [u16; TABLE],
+    mate: &mut Table,
 )
     requires { ⌜ Standard n (now reference) × Tables n (now reference) (now size) (now low) (now start) × Standard n (now row)
         × (length (now mate) ≡ tableWords) ⌝ }
     ensures { λ _. ⌜ Tabled (mateOf n (now (reference .entry)) (now (row .entry))) n (nodes (now (reference .entry))) (now (mate .exit))
         × (length (now (mate .exit)) ≡ tableWords) ⌝ }
 {
-    let mut other: [u16; TABLE] = [0; TABLE];
-    let mut off: [u16; TABLE] = [0; TABLE];
-    let mut lowest: [u16; TABLE] = [0; TABLE];
-    let mut first: [u16; TABLE] = [0; TABLE];
-    let mut last: [u16; TABLE] = [0; TABLE];
+    let mut other: Table = [0; TABLE];
+    let mut off: Table = [0; TABLE];
+    let mut lowest: Table = [0; TABLE];
+    let mut first: Table = [0; TABLE];
+    let mut last: Table = [0; TABLE];
     ranks(n, row, &mut other, &mut off, &mut lowest);
     candidates(n, reference, size, low, row, &other, &lowest, mate);
     spread(n, row, start, &mut first, &mut last);

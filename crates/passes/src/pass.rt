@@ -14,14 +14,16 @@ use judge::wide;
 // A table has a word for each node of the largest row.
 pub const TABLE: usize = 1024;
 
+pub type Table = [u16; TABLE];
+
 // The least key where there is no sample.
 const NO_KEY: u16 = 65535;
 
 // Between the ranks of two sizes: more than any sample.
-const RANK_STEP: usize = 1024;
+pub const RANK_STEP: usize = 1024;
 
 // What a pass starts with: the key of a sample, and e at an inner node.
-fn initial(n: usize, key: &[u16; TABLE], e: u16, v: usize) -> u16
+fn initial(n: usize, key: &Table, e: u16, v: usize) -> u16
     requires { ⌜ n ≤ mostSamples ⌝ }
     ensures { λ r. ⌜ r ≡ seeded n (entry (now (key .entry))) e v ⌝ }
 {
@@ -32,7 +34,7 @@ fn initial(n: usize, key: &[u16; TABLE], e: u16, v: usize) -> u16
 }
 
 // The table that a pass starts with.
-fn seed(n: usize, m: usize, key: &[u16; TABLE], e: u16, t: &mut [u16; TABLE])
+fn seed(n: usize, m: usize, key: &Table, e: u16, t: &mut Table)
     requires { ⌜ (n ≤ mostSamples) × (m ≤ tableWords) × (length (now t) ≡ tableWords) ⌝ }
     ensures { λ _. ⌜ Tabled (seeded n (entry (now (key .entry))) e) 0 m (now (t .exit)) × (length (now (t .exit)) ≡ tableWords) ⌝ }
 {
@@ -44,7 +46,7 @@ fn seed(n: usize, m: usize, key: &[u16; TABLE], e: u16, t: &mut [u16; TABLE])
 }
 
 // Node v hands its samples to its parent p, where they come after those that p has.
-fn hand(size: &mut [u16; TABLE], off: &mut [u16; TABLE], v: usize, p: usize)
+fn hand(size: &mut Table, off: &mut Table, v: usize, p: usize)
     requires { ⌜ (v < tableWords) × (p < tableWords) × (length (now size) ≡ tableWords) × (length (now off) ≡ tableWords)
         × (getD (now size) p 0 + getD (now size) v 0 < 65536) ⌝ }
     ensures { λ _. ⌜ (now (size .exit) ≡ set (now (size .entry)) p (getD (now (size .entry)) p 0 + getD (now (size .entry)) v 0))
@@ -55,7 +57,7 @@ fn hand(size: &mut [u16; TABLE], off: &mut [u16; TABLE], v: usize, p: usize)
 }
 
 // The pass that adds.
-fn add_up(n: usize, row: &[u16], m: usize, size: &mut [u16; TABLE], off: &mut [u16; TABLE])
+fn add_up(n: usize, row: &[u16], m: usize, size: &mut Table, off: &mut Table)
     requires { ⌜ Falls n (now row) × (m ≡ nodes (now row)) × (length (now size) ≡ tableWords) × (length (now off) ≡ tableWords)
         × Stage n (now row) _+_ 0 one 0 (now size) ⌝ }
     ensures { λ _. ⌜ Sized n (now (row .entry)) (now (size .exit)) (now (off .exit)) ⌝ }
@@ -69,7 +71,7 @@ fn add_up(n: usize, row: &[u16], m: usize, size: &mut [u16; TABLE], off: &mut [u
 }
 
 // The size of each node's group, and where its samples start among those of its parent.
-pub fn sizes(n: usize, row: &[u16], size: &mut [u16; TABLE], off: &mut [u16; TABLE])
+pub fn sizes(n: usize, row: &[u16], size: &mut Table, off: &mut Table)
     requires { ⌜ Falls n (now row) × (length (now size) ≡ tableWords) × (length (now off) ≡ tableWords) ⌝ }
     ensures { λ _. ⌜ Sized n (now (row .entry)) (now (size .exit)) (now (off .exit)) ⌝ }
 {
@@ -89,7 +91,7 @@ fn lesser(a: u16, b: u16) -> u16
 }
 
 // The key at p is lowered to that at v.
-fn lower(t: &mut [u16; TABLE], v: usize, p: usize)
+fn lower(t: &mut Table, v: usize, p: usize)
     requires { ⌜ (v < tableWords) × (p < tableWords) × (length (now t) ≡ tableWords) ⌝ }
     ensures { λ _. ⌜ now (t .exit) ≡ set (now (t .entry)) p (min (getD (now (t .entry)) p 0) (getD (now (t .entry)) v 0)) ⌝ }
 {
@@ -97,7 +99,7 @@ fn lower(t: &mut [u16; TABLE], v: usize, p: usize)
 }
 
 // The least key of the samples of each node's group.
-pub fn least(n: usize, row: &[u16], key: &[u16; TABLE], out: &mut [u16; TABLE])
+pub fn least(n: usize, row: &[u16], key: &Table, out: &mut Table)
     requires { ⌜ Falls n (now row) × Keys n (now key) × (length (now out) ≡ tableWords) ⌝ }
     ensures { λ _. ⌜ Tabled (leastAt n (now (row .entry)) (entry (now (key .entry)))) 0 (nodes (now (row .entry))) (now (out .exit)) ⌝ }
 {
@@ -112,7 +114,7 @@ pub fn least(n: usize, row: &[u16], key: &[u16; TABLE], out: &mut [u16; TABLE])
 }
 
 // The interval of v starts at its offset inside that of p.
-fn place(start: &mut [u16; TABLE], off: &[u16; TABLE], v: usize, p: usize)
+fn place(start: &mut Table, off: &Table, v: usize, p: usize)
     requires { ⌜ (v < tableWords) × (p < tableWords) × (length (now start) ≡ tableWords) × (getD (now start) p 0 + getD (now off) v 0 < 65536) ⌝ }
     ensures { λ _. ⌜ now (start .exit) ≡ set (now (start .entry)) v (getD (now (start .entry)) p 0 + getD (now (off .entry)) v 0) ⌝ }
 {
@@ -120,7 +122,7 @@ fn place(start: &mut [u16; TABLE], off: &[u16; TABLE], v: usize, p: usize)
 }
 
 // Where each node's interval of places starts; a sample's is its place. The root comes first, and each node after its parent.
-pub fn starts(n: usize, row: &[u16], off: &[u16; TABLE], start: &mut [u16; TABLE])
+pub fn starts(n: usize, row: &[u16], off: &Table, start: &mut Table)
     requires { ⌜ Falls n (now row) × Offsets n (now row) (nodes (now row) - 1) (now off) × (length (now start) ≡ tableWords) ⌝ }
     ensures { λ _. ⌜ Starts n (now (row .entry)) (entry (now (start .exit))) ⌝ }
 {
@@ -135,7 +137,7 @@ pub fn starts(n: usize, row: &[u16], off: &[u16; TABLE], start: &mut [u16; TABLE
 }
 
 // Each sample its own key.
-fn numbers(n: usize, t: &mut [u16; TABLE])
+fn numbers(n: usize, t: &mut Table)
     requires { ⌜ (n ≤ mostSamples) × (length (now t) ≡ tableWords) ⌝ }
     ensures { λ _. ⌜ Tabled own 0 n (now (t .exit)) ⌝ }
 {
@@ -147,24 +149,18 @@ fn numbers(n: usize, t: &mut [u16; TABLE])
 }
 
 // Sizes with offsets, and smallest samples.
-pub fn ranks(
-    n: usize,
-    row: &[u16],
-    size: &mut [u16; TABLE],
-    off: &mut [u16; TABLE],
-    low: &mut [u16; TABLE],
-)
+pub fn ranks(n: usize, row: &[u16], size: &mut Table, off: &mut Table, low: &mut Table)
     requires { ⌜ Falls n (now row) × (length (now size) ≡ tableWords) × (length (now off) ≡ tableWords) × (length (now low) ≡ tableWords) ⌝ }
     ensures { λ _. ⌜ Ranked n (now (row .entry)) (now (size .exit)) (now (low .exit)) × Sized n (now (row .entry)) (now (size .exit)) (now (off .exit)) ⌝ }
 {
-    let mut key: [u16; TABLE] = [0; TABLE];
+    let mut key: Table = [0; TABLE];
     sizes(n, row, size, off);
     numbers(n, &mut key);
     least(n, row, &key, low);
 }
 
 // The place of a node in standard order: by falling size, then by rising smallest sample.
-pub fn rank(n: usize, size: &[u16; TABLE], low: &[u16; TABLE], v: usize) -> usize
+pub fn rank(n: usize, size: &Table, low: &Table, v: usize) -> usize
     requires { ⌜ (v < tableWords) × (n ≤ mostSamples) × (getD (now size) v 0 ≤ n) ⌝ }
     ensures { λ r. ⌜ r ≡ rankOf n (getD (now (size .entry)) v 0) (getD (now (low .entry)) v 0) ⌝ }
 {

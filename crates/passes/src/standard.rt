@@ -9,8 +9,10 @@ ghost use Rattle.trees.specs.Falls.{Falls, rightful, falling};
 ghost use Rattle.trees.specs.Tables.{tableWords, Most, rankIn};
 ghost use Rattle.trees.specs.Linear.{fillerZero, rising, ranked};
 use crate::pass::TABLE;
+use crate::pass::Table;
 use crate::pass::rank;
 use crate::pass::ranks;
+use judge::Answer;
 use judge::ROOT_MARK;
 use judge::nodes;
 use judge::parent;
@@ -53,18 +55,14 @@ fn filler_zero(n: usize, row: &[u16]) -> bool
     requires { ⌜ (length (now row) ≡ rowWords n) × (nodes (now row) < rowWords n) ⌝ }
     ensures { λ r. ⌜ r ≡ fillerZero n (now (row .entry)) ⌝ }
 {
-    let mut w = nodes(row) + 1;
-    while w < row.len() {
-        if row[w] != 0 {
-            return false;
-        }
-        w += 1;
-    }
+    let Answer::Accepted = judge::filler(n, row) else {
+        return false;
+    };
     true
 }
 
 // Whether each rank from n to below last is less than the next.
-fn rising(n: usize, last: usize, size: &[u16; TABLE], low: &[u16; TABLE]) -> bool
+fn rising(n: usize, last: usize, size: &Table, low: &Table) -> bool
     requires { ⌜ (n ≤ mostSamples) × (last < tableWords) × Most n (last + 1) (now size) ⌝ }
     ensures { λ r. ⌜ r ≡ rising (rankIn n (now (size .entry)) (now (low .entry))) n last ⌝ }
 {
@@ -83,9 +81,9 @@ fn ranked(n: usize, row: &[u16]) -> bool
     requires { ⌜ Falls n (now row) ⌝ }
     ensures { λ r. ⌜ r ≡ ranked n (now (row .entry)) ⌝ }
 {
-    let mut size: [u16; TABLE] = [0; TABLE];
-    let mut off: [u16; TABLE] = [0; TABLE];
-    let mut low: [u16; TABLE] = [0; TABLE];
+    let mut size: Table = [0; TABLE];
+    let mut off: Table = [0; TABLE];
+    let mut low: Table = [0; TABLE];
     ranks(n, row, &mut size, &mut off, &mut low);
     let last = nodes(row) - 1;
     (SMALLEST <= size[last]) & rising(n, last, &size, &low)

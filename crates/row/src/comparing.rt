@@ -17,6 +17,7 @@ use crate::renumbering::check_first;
 use crate::standard::renumber_valid;
 use judge::Answer;
 use passes::TABLE;
+use passes::Table;
 
 // "three counts: groups in both rows, only in the first, only in the second", or a refusal.
 pub enum Comparison {
@@ -25,7 +26,7 @@ pub enum Comparison {
 }
 
 // How many of the nodes from n to below m have a mate.
-fn mated(n: usize, m: usize, mate: &[u16; TABLE]) -> usize
+fn mated(n: usize, m: usize, mate: &Table) -> usize
     requires { ⌜ m ≤ tableWords ⌝ }
     ensures { λ r. ⌜ r ≡ count (λ v. not (eqb (getD (now (mate .entry)) v 0) noMate)) (range n m) ⌝ }
 {
@@ -45,10 +46,10 @@ fn common(n: usize, a: &[u16], b: &[u16]) -> usize
     requires { ⌜ Standard n (now a) × Standard n (now b) ⌝ }
     ensures { λ r. ⌜ r ≡ count (λ v. holds n (groupAt n (now (a .entry)) v) (now (b .entry))) (range n (nodes (now (a .entry)))) ⌝ }
 {
-    let mut size: [u16; TABLE] = [0; TABLE];
-    let mut low: [u16; TABLE] = [0; TABLE];
-    let mut start: [u16; TABLE] = [0; TABLE];
-    let mut mate: [u16; TABLE] = [0; TABLE];
+    let mut size: Table = [0; TABLE];
+    let mut low: Table = [0; TABLE];
+    let mut start: Table = [0; TABLE];
+    let mut mate: Table = [0; TABLE];
     passes::tables(n, a, &mut size, &mut low, &mut start);
     passes::mates(n, a, &size, &low, &start, b, &mut mate);
     mated(n, judge::nodes(a), &mate)
@@ -81,8 +82,8 @@ fn counts_valid(n: usize, first: &[u16], second: &[u16]) -> Comparison
     ensures { λ r. ⌜ comparison r ≡ compared n (now (first .entry)) (now (second .entry)) ⌝ }
 {
     let w = 2 * n;
-    let mut a: [u16; TABLE] = [0; TABLE];
-    let mut b: [u16; TABLE] = [0; TABLE];
+    let mut a: Table = [0; TABLE];
+    let mut b: Table = [0; TABLE];
     counts_by(n, first, second, &mut a[..w], &mut b[..w])
 }
 
