@@ -18,6 +18,13 @@ const PLACES: u64 = 72057594037927936;
 
 const COUNTS: u64 = 65536;
 
+// Where the three counts stand: from bit 16, 32 and 48 on.
+const BOTH_FROM: u64 = 65536;
+
+const FIRST_FROM: u64 = 4294967296;
+
+const SECOND_FROM: u64 = 281474976710656;
+
 // A refusal as one number: its number in the low 8 bits, its place above them.
 fn pack_refusal(number: usize, place: usize) -> u64
     ensures { λ r. ⌜ r ≡ packed (refused number place) ⌝ }
@@ -39,8 +46,8 @@ fn pack(a: Answer) -> u64
 fn pack_counts(both: usize, first: usize, second: usize) -> u64
     ensures { λ r. ⌜ r ≡ packed (counted both first second) ⌝ }
 {
-    65536 * (both as u64 % COUNTS)
-        + (4294967296 * (first as u64 % COUNTS) + 281474976710656 * (second as u64 % COUNTS))
+    BOTH_FROM * (both as u64 % COUNTS)
+        + (FIRST_FROM * (first as u64 % COUNTS) + SECOND_FROM * (second as u64 % COUNTS))
 }
 
 // An answer of comparing as one number.

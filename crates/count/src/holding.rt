@@ -15,22 +15,18 @@ ghost use Rattle.count.specs.Holders.{holdersAt, withMate, withRun, Unde
 use judge::nodes;
 use passes::NO_MATE;
 use passes::TABLE;
+use passes::Table;
 use passes::mates;
 use passes::tables;
-
-// "From word 8 on come k slots"
-const HEADER_WORDS: usize = 8;
-
-// "slots of 2n+1 words: identifier, then the row"
-const ROW_OFFSET: usize = 1;
+use slots::slot_row;
+use slots::slot_start;
 
 // The row of run j.
 pub fn run_row(n: usize, words: &[u16], j: usize) -> &[u16]
-    requires { ⌜ (n ≤ mostSamples) × (slotStart n j + slotWords n ≤ length (now words)) ⌝ }
+    requires { ⌜ (n ≤ mostSamples) × (j ≤ mostRuns) × (slotStart n j + slotWords n ≤ length (now words)) ⌝ }
     ensures { λ r. ⌜ now r ≡ rowAt n (now (words .entry)) j ⌝ }
 {
-    let from = HEADER_WORDS + j * (2 * n + ROW_OFFSET) + ROW_OFFSET;
-    &words[from..from + 2 * n]
+    slot_row(words, n, slot_start(n, j))
 }
 
 // A count, and one more where there is a mate.
@@ -45,7 +41,7 @@ fn with_mate(held: u16, mate: u16) -> u16
 }
 
 // Counts the mates of the nodes from n to below m.
-fn tally(n: usize, m: usize, mate: &[u16; TABLE], holders: &mut [u16; TABLE])
+fn tally(n: usize, m: usize, mate: &Table, holders: &mut Table)
     requires { ⌜ (n ≤ m) × (m ≤ tableWords) × (length (now holders) ≡ tableWords) × Under mostRuns n m (now holders) ⌝ }
     ensures { λ _. ⌜ Tabled (withMate (now (mate .entry)) (now (holders .entry))) n m (now (holders .exit)) × (length (now (holders .exit)) ≡ tableWords) ⌝ }
 {
@@ -60,28 +56,31 @@ fn tally(n: usize, m: usize, mate: &[u16; TABLE], holders: &mut [u16; TABLE])
 fn count_run(
     n: usize,
     reference: &[u16],
-    size: &[u16; TABLE],
-    low: &[u16; TABLE],
-    start: &[u16; TABLE],
+    size: &Table,
+    low: &Table,
+    start: &Table,
     row: &[u16],
-    holders: &mut [u16; TABLE],
+    holders: &mut Table,
 )
-    requires { ⌜ Standard n (now reference) × Tables n (now reference) (now size) (now low) (now start) × Standard n (now row) × (length (now holders) ≡ tableWords) × Under mostRuns n (nodes (now reference)) (now holders) ⌝ }
-    ensures { λ _. ⌜ Tabled (withRun n (now (reference .entry)) (now (row .entry)) (now (holders .entry))) n (nodes (now (reference .entry))) (now (holders .exit)) × (length (now (holders .exit)) ≡ tableWords) ⌝ }
+    requires { ⌜ Standard n (now reference) × Tables n (now reference) (now size) (now low) (now start) × Standard n (now row)
+        × (length (now holders) ≡ tableWords) × Under mostRuns n (nodes (now reference)) (now holders) ⌝ }
+    ensures { λ _. ⌜ Tabled (withRun n (now (reference .entry)) (now (row .entry)) (now (holders .entry)))
+        n (nodes (now (reference .entry))) (now (holders .exit)) × (length (now (holders .exit)) ≡ tableWords) ⌝ }
 {
-    let mut mate: [u16; TABLE] = [0; TABLE];
+    let mut mate: Table = [0; TABLE];
     mates(n, reference, size, low, start, row, &mut mate);
     tally(n, nodes(reference), &mate, holders);
 }
 
 // For each inner node of a standard row, how many of the k runs of the study hold its group.
-pub fn holders(n: usize, words: &[u16], k: usize, reference: &[u16], holders: &mut [u16; TABLE])
+pub fn holders(n: usize, words: &[u16], k: usize, reference: &[u16], holders: &mut Table)
     requires { ⌜ Study (now words) n k × Standard n (now reference) × (length (now holders) ≡ tableWords) ⌝ }
-    ensures { λ _. ⌜ Tabled (holdersAt n (runs (now (words .entry))) (now (reference .entry))) n (nodes (now (reference .entry))) (now (holders .exit)) × (length (now (holders .exit)) ≡ tableWords) ⌝ }
+    ensures { λ _. ⌜ Tabled (holdersAt n (runs (now (words .entry))) (now (reference .entry))) n (nodes (now (reference .entry))) (now (holders .exit))
+        × (length (now (holders .exit)) ≡ tableWords) ⌝ }
 {
-    let mut size: [u16; TABLE] = [0; TABLE];
-    let mut low: [u16; TABLE] = [0; TABLE];
-    let mut start: [u16; TABLE] = [0; TABLE];
+    let mut size: Table = [0; TABLE];
+    let mut low: Table = [0; TABLE];
+    let mut start: Table = [0; TABLE];
     tables(n, reference, &mut size, &mut low, &mut start);
     *holders = [0; TABLE];
     let mut j = 0;

@@ -10,12 +10,12 @@ ghost use Rattle.count.specs.Plain.{bareRow, accepted};
 use crate::holding::holders;
 use crate::holding::run_row;
 use crate::rule::marks;
+use judge::ROOT_MARK;
 use judge::nodes;
 use merge::merge;
 use passes::TABLE;
-
-// "65535 means that v is the root"
-const ROOT_MARK: u16 = 65535;
+use passes::Table;
+use slots::copy_in;
 
 // Word w of the row whose one inner node is the root.
 fn bare_word(n: usize, w: usize) -> u16
@@ -29,7 +29,7 @@ fn bare_word(n: usize, w: usize) -> u16
         return n as u16;
     }
     if w == n + 1 {
-        return ROOT_MARK;
+        return ROOT_MARK as u16;
     }
     0
 }
@@ -51,11 +51,7 @@ fn copy(from: &[u16], to: &mut [u16])
     requires { ⌜ length (now to) ≡ length (now from) ⌝ }
     ensures { λ _. ⌜ now (to .exit) ≡ now (from .entry) ⌝ }
 {
-    let mut i = 0;
-    while i < to.len() {
-        to[i] = from[i];
-        i += 1;
-    }
+    copy_in(to, 0, from);
 }
 
 // Merges what is shown of run i into what is accepted.
@@ -63,7 +59,7 @@ fn take_in(n: usize, words: &[u16], k: usize, i: usize, out: &mut [u16], spare: 
     requires { ⌜ Study (now words) n k × (i < k) × (now out ≡ accepted n (now words) i) × (length (now spare) ≡ rowWords n) ⌝ }
     ensures { λ _. ⌜ now (out .exit) ≡ accepted n (now (words .entry)) (i + 1) ⌝ }
 {
-    let mut held: [u16; TABLE] = [0; TABLE];
+    let mut held: Table = [0; TABLE];
     let mut keep: [bool; TABLE] = [false; TABLE];
     let row = run_row(n, words, i);
     holders(n, words, k, row, &mut held);

@@ -13,21 +13,16 @@ ghost use Rattle.trees.specs.Passes.{Ranked};
 ghost use Rattle.trees.specs.Merging.{merged, Mergeable};
 ghost use Rattle.trees.specs.Lockstep.{Next, blank, rankOrEnd, Chosen, Given, Numbered};
 ghost use Rattle.trees.specs.Climbing.{Raised, climbed, Lifted, Climbable, parentOf, wordOf};
+use judge::MOST_SAMPLES;
+use judge::ROOT_MARK;
 use judge::nodes;
 use judge::parent;
 use judge::wide;
+use passes::RANK_STEP;
 use passes::TABLE;
+use passes::Table;
 use passes::rank;
 use passes::ranks;
-
-// "Samples n: 2 to 512"
-const MOST_SAMPLES: usize = 512;
-
-// "65535 means that v is the root"
-const ROOT_MARK: u16 = 65535;
-
-// Between the ranks of two sizes: more than any sample.
-const RANK_STEP: usize = 1024;
 
 // A number greater than every rank.
 const RANK_END: usize = 1048576;
@@ -48,7 +43,7 @@ fn next_kept(keep: &[bool; TABLE], v: usize, m: usize) -> usize
 }
 
 // The rank of node v, and behind the last node a number greater than every rank.
-fn rank_or_end(n: usize, m: usize, sizes: &[u16; TABLE], lows: &[u16; TABLE], v: usize) -> usize
+fn rank_or_end(n: usize, m: usize, sizes: &Table, lows: &Table, v: usize) -> usize
     requires { ⌜ (n ≤ mostSamples) × (m ≤ tableWords) × (v < m → entry (now sizes) v ≤ n) ⌝ }
     ensures { λ r. ⌜ r ≡ rankOrEnd n m (now (sizes .entry)) (now (lows .entry)) v ⌝ }
 {
@@ -87,16 +82,18 @@ fn choose(p: usize, q: usize) -> Choice
 fn choose_next(
     n: usize,
     ma: usize,
-    sizes_a: &[u16; TABLE],
-    lows_a: &[u16; TABLE],
+    sizes_a: &Table,
+    lows_a: &Table,
     x: usize,
     mb: usize,
-    sizes_b: &[u16; TABLE],
-    lows_b: &[u16; TABLE],
+    sizes_b: &Table,
+    lows_b: &Table,
     y: usize,
 ) -> Choice
-    requires { ⌜ (n ≤ mostSamples) × (ma ≤ tableWords) × (mb ≤ tableWords) × (x < ma → entry (now «sizes_a») x ≤ n) × (y < mb → entry (now «sizes_b») y ≤ n) ⌝ }
-    ensures { λ r. ⌜ Chosen (rankOrEnd n ma (now («sizes_a» .entry)) (now («lows_a» .entry)) x) (rankOrEnd n mb (now («sizes_b» .entry)) (now («lows_b» .entry)) y) (r .first) (r .second) (r .low) ⌝ }
+    requires { ⌜ (n ≤ mostSamples) × (ma ≤ tableWords) × (mb ≤ tableWords)
+        × (x < ma → entry (now «sizes_a») x ≤ n) × (y < mb → entry (now «sizes_b») y ≤ n) ⌝ }
+    ensures { λ r. ⌜ Chosen (rankOrEnd n ma (now («sizes_a» .entry)) (now («lows_a» .entry)) x)
+        (rankOrEnd n mb (now («sizes_b» .entry)) (now («lows_b» .entry)) y) (r .first) (r .second) (r .low) ⌝ }
 {
     choose(
         rank_or_end(n, ma, sizes_a, lows_a, x),
@@ -105,14 +102,7 @@ fn choose_next(
 }
 
 // Gives node v the number c if it is taken, and tells the next node that is to have one.
-fn give(
-    num: &mut [u16; TABLE],
-    keep: &[bool; TABLE],
-    v: usize,
-    m: usize,
-    c: usize,
-    taken: bool,
-) -> usize
+fn give(num: &mut Table, keep: &[bool; TABLE], v: usize, m: usize, c: usize, taken: bool) -> usize
     requires { ⌜ (length (now num) ≡ tableWords) × (m ≤ tableWords) × (c < tableWords) × (taken ≡ true → v < m) ⌝ }
     ensures { λ r. ⌜ Given (now (num .entry)) (now (keep .entry)) v m c taken (now (num .exit)) r ⌝ }
 {
@@ -127,19 +117,22 @@ fn give(
 fn lockstep(
     n: usize,
     a: &[u16],
-    sizes_a: &[u16; TABLE],
-    lows_a: &[u16; TABLE],
+    sizes_a: &Table,
+    lows_a: &Table,
     keep_a: &[bool; TABLE],
     b: &[u16],
-    sizes_b: &[u16; TABLE],
-    lows_b: &[u16; TABLE],
+    sizes_b: &Table,
+    lows_b: &Table,
     keep_b: &[bool; TABLE],
-    num_a: &mut [u16; TABLE],
-    num_b: &mut [u16; TABLE],
-    mins: &mut [u16; TABLE],
+    num_a: &mut Table,
+    num_b: &mut Table,
+    mins: &mut Table,
 ) -> usize
-    requires { ⌜ Mergeable n (now a) (now «keep_a») (now b) (now «keep_b») × Ranked n (now a) (now «sizes_a») (now «lows_a») × Ranked n (now b) (now «sizes_b») (now «lows_b») × (now «num_a» ≡ blank) × (now «num_b» ≡ blank) × (length (now mins) ≡ tableWords) ⌝ }
-    ensures { λ r. ⌜ Numbered n (now (a .entry)) (now («keep_a» .entry)) (now (b .entry)) (now («keep_b» .entry)) (now («num_a» .exit)) (now («num_b» .exit)) (now (mins .exit)) r ⌝ }
+    requires { ⌜ Mergeable n (now a) (now «keep_a») (now b) (now «keep_b»)
+        × Ranked n (now a) (now «sizes_a») (now «lows_a») × Ranked n (now b) (now «sizes_b») (now «lows_b»)
+        × (now «num_a» ≡ blank) × (now «num_b» ≡ blank) × (length (now mins) ≡ tableWords) ⌝ }
+    ensures { λ r. ⌜ Numbered n (now (a .entry)) (now («keep_a» .entry)) (now (b .entry)) (now («keep_b» .entry))
+        (now («num_a» .exit)) (now («num_b» .exit)) (now (mins .exit)) r ⌝ }
 {
     let ma = nodes(a);
     let mb = nodes(b);
@@ -157,11 +150,11 @@ fn lockstep(
 }
 
 // The sizes and the smallest samples of a row's nodes.
-fn keys(n: usize, row: &[u16], sizes: &mut [u16; TABLE], lows: &mut [u16; TABLE])
+fn keys(n: usize, row: &[u16], sizes: &mut Table, lows: &mut Table)
     requires { ⌜ Standard n (now row) × (length (now sizes) ≡ tableWords) × (length (now lows) ≡ tableWords) ⌝ }
     ensures { λ _. ⌜ Ranked n (now (row .entry)) (now (sizes .exit)) (now (lows .exit)) ⌝ }
 {
-    let mut off = [0u16; TABLE];
+    let mut off: Table = [0; TABLE];
     ranks(n, row, sizes, &mut off, lows);
 }
 
@@ -172,17 +165,19 @@ fn numbers(
     keep_a: &[bool; TABLE],
     b: &[u16],
     keep_b: &[bool; TABLE],
-    num_a: &mut [u16; TABLE],
-    num_b: &mut [u16; TABLE],
-    mins: &mut [u16; TABLE],
+    num_a: &mut Table,
+    num_b: &mut Table,
+    mins: &mut Table,
 ) -> usize
-    requires { ⌜ Mergeable n (now a) (now «keep_a») (now b) (now «keep_b») × (now «num_a» ≡ blank) × (now «num_b» ≡ blank) × (length (now mins) ≡ tableWords) ⌝ }
-    ensures { λ r. ⌜ Numbered n (now (a .entry)) (now («keep_a» .entry)) (now (b .entry)) (now («keep_b» .entry)) (now («num_a» .exit)) (now («num_b» .exit)) (now (mins .exit)) r ⌝ }
+    requires { ⌜ Mergeable n (now a) (now «keep_a») (now b) (now «keep_b»)
+        × (now «num_a» ≡ blank) × (now «num_b» ≡ blank) × (length (now mins) ≡ tableWords) ⌝ }
+    ensures { λ r. ⌜ Numbered n (now (a .entry)) (now («keep_a» .entry)) (now (b .entry)) (now («keep_b» .entry))
+        (now («num_a» .exit)) (now («num_b» .exit)) (now (mins .exit)) r ⌝ }
 {
-    let mut sizes_a = [0u16; TABLE];
-    let mut lows_a = [0u16; TABLE];
-    let mut sizes_b = [0u16; TABLE];
-    let mut lows_b = [0u16; TABLE];
+    let mut sizes_a: Table = [0; TABLE];
+    let mut lows_a: Table = [0; TABLE];
+    let mut sizes_b: Table = [0; TABLE];
+    let mut lows_b: Table = [0; TABLE];
     keys(n, a, &mut sizes_a, &mut lows_a);
     keys(n, b, &mut sizes_b, &mut lows_b);
     lockstep(
@@ -222,7 +217,7 @@ fn own_or(own: u16, other: u16) -> u16
 }
 
 // Each node that is not kept takes its parent's number, so that each has that of the nearest kept node at or above it.
-fn raise(n: usize, row: &[u16], num: &mut [u16; TABLE])
+fn raise(n: usize, row: &[u16], num: &mut Table)
     requires { ⌜ Standard n (now row) × (length (now num) ≡ tableWords) ⌝ }
     ensures { λ _. ⌜ Raised n (now (row .entry)) (now (num .entry)) (now (num .exit)) × (length (now (num .exit)) ≡ tableWords) ⌝ }
 {
@@ -236,7 +231,7 @@ fn raise(n: usize, row: &[u16], num: &mut [u16; TABLE])
 }
 
 // The first node from v upwards that has a number below i.
-fn climb(n: usize, row: &[u16], up: &[u16; TABLE], i: usize, v: usize) -> usize
+fn climb(n: usize, row: &[u16], up: &Table, i: usize, v: usize) -> usize
     requires { ⌜ Standard n (now row) × (entry (now up) n < i) × (n ≤ v) × (v < nodes (now row)) ⌝ }
     ensures { λ r. ⌜ r ≡ climbed (nodes (now (row .entry))) (now (row .entry)) (now (up .entry)) i v ⌝ }
 {
@@ -251,12 +246,13 @@ fn climb(n: usize, row: &[u16], up: &[u16; TABLE], i: usize, v: usize) -> usize
 fn lift(
     n: usize,
     row: &[u16],
-    up: &[u16; TABLE],
+    up: &Table,
     places: &mut [u16; MOST_SAMPLES],
     i: usize,
     s: usize,
 ) -> u16
-    requires { ⌜ Standard n (now row) × (entry (now up) n < i) × (length (now places) ≡ mostSamples) × (s < n) × (n ≤ entry (now places) s) × (entry (now places) s < nodes (now row)) ⌝ }
+    requires { ⌜ Standard n (now row) × (entry (now up) n < i) × (length (now places) ≡ mostSamples) × (s < n)
+        × (n ≤ entry (now places) s) × (entry (now places) s < nodes (now row)) ⌝ }
     ensures { λ r. ⌜ Lifted (now (row .entry)) (now (up .entry)) (now (places .entry)) i s (now (places .exit)) r ⌝ }
 {
     let v = climb(n, row, up, i, wide(places[s]));
@@ -277,17 +273,10 @@ fn start(n: usize, row: &[u16], places: &mut [u16; MOST_SAMPLES])
 }
 
 // Puts the parent of each new number where its smallest sample was.
-fn parents(
-    n: usize,
-    a: &[u16],
-    up_a: &[u16; TABLE],
-    b: &[u16],
-    up_b: &[u16; TABLE],
-    c: usize,
-    mins: &mut [u16; TABLE],
-)
+fn parents(n: usize, a: &[u16], up_a: &Table, b: &[u16], up_b: &Table, c: usize, mins: &mut Table)
     requires { ⌜ Climbable n (now a) (now «up_a») (now b) (now «up_b») (now mins) c ⌝ }
-    ensures { λ _. ⌜ Tabled (parentOf n (now (a .entry)) (now («up_a» .entry)) (now (b .entry)) (now («up_b» .entry)) (now (mins .entry))) n c (now (mins .exit)) ⌝ }
+    ensures { λ _. ⌜ Tabled (parentOf n (now (a .entry)) (now («up_a» .entry)) (now (b .entry)) (now («up_b» .entry)) (now (mins .entry)))
+        n c (now (mins .exit)) ⌝ }
 {
     let mut places_a = [0u16; MOST_SAMPLES];
     let mut places_b = [0u16; MOST_SAMPLES];
@@ -301,17 +290,17 @@ fn parents(
         let q = lift(n, b, up_b, &mut places_b, i, s);
         mins[i] = larger(p, q);
     }
-    mins[n] = ROOT_MARK;
+    mins[n] = ROOT_MARK as u16;
 }
 
 // Word w of the merged row.
 fn word(
     n: usize,
     a: &[u16],
-    up_a: &[u16; TABLE],
+    up_a: &Table,
     b: &[u16],
-    up_b: &[u16; TABLE],
-    parents: &[u16; TABLE],
+    up_b: &Table,
+    parents: &Table,
     c: usize,
     w: usize,
 ) -> u16
@@ -336,15 +325,16 @@ fn word(
 fn write_row(
     n: usize,
     a: &[u16],
-    up_a: &[u16; TABLE],
+    up_a: &Table,
     b: &[u16],
-    up_b: &[u16; TABLE],
-    parents: &[u16; TABLE],
+    up_b: &Table,
+    parents: &Table,
     c: usize,
     out: &mut [u16],
 )
     requires { ⌜ Standard n (now a) × Standard n (now b) × (c < rowWords n) × (length (now out) ≡ rowWords n) ⌝ }
-    ensures { λ _. ⌜ Tabled (wordOf n (now (a .entry)) (now («up_a» .entry)) (now (b .entry)) (now («up_b» .entry)) (now (parents .entry)) c) 0 (rowWords n) (now (out .exit)) ⌝ }
+    ensures { λ _. ⌜ Tabled (wordOf n (now (a .entry)) (now («up_a» .entry)) (now (b .entry)) (now («up_b» .entry)) (now (parents .entry)) c)
+        0 (rowWords n) (now (out .exit)) ⌝ }
 {
     let mut w = 0;
     while w < out.len() {
@@ -365,9 +355,9 @@ pub fn merge(
     requires { ⌜ Mergeable n (now a) (now «keep_a») (now b) (now «keep_b») × (length (now out) ≡ rowWords n) ⌝ }
     ensures { λ _. ⌜ now (out .exit) ≡ rowOf n (merged n (now (a .entry)) (now («keep_a» .entry)) (now (b .entry)) (now («keep_b» .entry))) ⌝ }
 {
-    let mut num_a = [0u16; TABLE];
-    let mut num_b = [0u16; TABLE];
-    let mut mins = [0u16; TABLE];
+    let mut num_a: Table = [0; TABLE];
+    let mut num_b: Table = [0; TABLE];
+    let mut mins: Table = [0; TABLE];
     let c = numbers(n, a, keep_a, b, keep_b, &mut num_a, &mut num_b, &mut mins);
     raise(n, a, &mut num_a);
     raise(n, b, &mut num_b);

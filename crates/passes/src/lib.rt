@@ -1,8 +1,8 @@
 // Linear passes over rows whose parents have smaller numbers: sizes, least keys and intervals of places; whether a row is standard; mates.
 mod mating;
 mod pass;
-mod row;
 mod standard;
+mod turns;
 
 pub use mating::NO_MATE;
 pub use mating::mates;

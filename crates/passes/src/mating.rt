@@ -131,7 +131,7 @@ fn from_end(n: usize, place: u16) -> u16
 }
 
 // Each sample's place, counted from the end.
-fn ends(n: usize, start: &Table, t: &mut Table)
+fn all_from_end(n: usize, start: &Table, t: &mut Table)
     requires { ⌜ (n ≤ mostSamples) × Keys n (now start) × (length (now t) ≡ tableWords) ⌝ }
     ensures { λ _. ⌜ Tabled (fromEnd n (entry (now (start .entry)))) 0 n (now (t .exit)) ⌝ }
 {
@@ -150,7 +150,7 @@ fn spread(n: usize, row: &[u16], start: &Table, first: &mut Table, last: &mut Ta
 {
     let mut end: Table = [0; TABLE];
     least(n, row, start, first);
-    ends(n, start, &mut end);
+    all_from_end(n, start, &mut end);
     least(n, row, &end, last);
 }
 

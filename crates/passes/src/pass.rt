@@ -7,7 +7,7 @@ ghost use Rattle.trees.specs.Checks.{mostSamples};
 ghost use Rattle.trees.specs.Falls.{Falls};
 ghost use Rattle.trees.specs.Tables.{Tabled, tableWords, entry, one, own, seeded, Keys, leastAt, rankOf};
 ghost use Rattle.trees.specs.Passes.{Stage, Offsets, Sized, Ranked, Starts};
-use crate::row::step;
+use crate::turns::step;
 use judge::nodes;
 use judge::wide;
 

@@ -9,8 +9,8 @@
 //     7 compare    x = n           a the first row, b the second
 //
 // A call that is added has a line above, a number below, an arm in `called` and a function of its own.
-use crate::words::wide;
 use judge::Answer;
+use judge::wide;
 use row::Comparison;
 ghost use mathlib.Core.Path.{_≡_};
 ghost use Rattle.replay.specs.Calls.{headOf, plainReply, replyTo, replyCounts, replyWords};
@@ -28,6 +28,9 @@ const OP_JUDGE: u16 = 5;
 const OP_RENUMBER: u16 = 6;
 
 const OP_COMPARE: u16 = 7;
+
+// How many values a word has.
+const WORD: usize = 65536;
 
 // The head of a request: the call, its numbers x and y, and how many words its buffers have.
 pub struct Head {
@@ -162,11 +165,11 @@ pub fn reply_words(reply: Reply) -> [u16; 6]
     ensures { λ r. ⌜ r ≡ replyWords reply ⌝ }
 {
     [
-        (reply.number % 65536) as u16,
-        (reply.place % 65536) as u16,
-        (reply.place / 65536 % 65536) as u16,
-        (reply.c1 % 65536) as u16,
-        (reply.c2 % 65536) as u16,
-        (reply.c3 % 65536) as u16,
+        (reply.number % WORD) as u16,
+        (reply.place % WORD) as u16,
+        (reply.place / WORD % WORD) as u16,
+        (reply.c1 % WORD) as u16,
+        (reply.c2 % WORD) as u16,
+        (reply.c3 % WORD) as u16,
     ]
 }

@@ -37,9 +37,9 @@ fn answer_next() -> bool {
 
 // Answers the request with this head, unless a buffer is too long, and says whether it did.
 fn answer_head(head: Head) -> bool {
-    let la = words::wide(head.la);
-    let lb = words::wide(head.lb);
-    let lc = words::wide(head.lc);
+    let la = judge::wide(head.la);
+    let lb = judge::wide(head.lb);
+    let lc = judge::wide(head.lc);
     if la > words::MOST_WORDS {
         return false;
     }

@@ -4,10 +4,13 @@ ghost use mathlib.Core.Path.{_≡_};
 ghost use lib.ListN.{length};
 ghost use Rattle.replay.specs.Words.{mostWords, bytesOf, wordsOf, wordAt, wordPut};
 
+// A word is its low byte and so many times its high byte.
+const HIGH: u16 = 256;
+
 // Words that a buffer has at most.
 pub const MOST_WORDS: usize = 32768;
 
-// As many zeros. What is promised is the length, since lending the array as a slice asks for it.
+// A buffer of zeros. What is promised is the length, since lending the array as a slice asks for it.
 pub fn buffer() -> [u16; MOST_WORDS]
     ensures { λ r. ⌜ mostWords ≡ length r ⌝ }
 {
@@ -51,20 +54,13 @@ fn put_word(bytes: &mut [u8], i: usize, w: u16)
     requires { ⌜ 2 * i + 1 < length (now bytes) ⌝ }
     ensures { λ _. ⌜ now (bytes .exit) ≡ wordPut (now (bytes .entry)) i w ⌝ }
 {
-    bytes[2 * i] = (w % 256) as u8;
-    bytes[2 * i + 1] = (w / 256) as u8;
+    bytes[2 * i] = (w % HIGH) as u8;
+    bytes[2 * i + 1] = (w / HIGH) as u8;
 }
 
 // The word of a low and a high byte.
 fn word(lo: u8, hi: u8) -> u16
     ensures { λ r. ⌜ r ≡ lo + 256 * hi ⌝ }
 {
-    lo as u16 + 256 * (hi as u16)
-}
-
-// A word as a number.
-pub fn wide(x: u16) -> usize
-    ensures { λ r. ⌜ r ≡ x ⌝ }
-{
-    x as usize
+    lo as u16 + HIGH * (hi as u16)
 }

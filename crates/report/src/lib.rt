@@ -16,9 +16,11 @@ use count::agreed_row;
 use count::holders;
 use judge::Answer;
 use judge::Refusal;
+use judge::line;
 use judge::nodes;
 use judge::words_both;
 use passes::TABLE;
+use passes::Table;
 use slots::in_force;
 use slots::samples;
 use study::study_given;
@@ -27,10 +29,7 @@ use study::study_given;
 fn runs_given(k: usize) -> Answer
     ensures { λ r. ⌜ verdict r ≡ asked (line 14 (eqb k 0)) ⌝ }
 {
-    if k == 0 {
-        return Answer::Refused(Refusal::EMPTY, 0);
-    }
-    Answer::Accepted
+    line(Refusal::EMPTY, k == 0)
 }
 
 // Checks 3 and 14, over n samples with k runs in force.
@@ -46,7 +45,7 @@ fn report_given(n: usize, k: usize, agreed: &[u16], support: &[u16]) -> Answer
 }
 
 // Word w of the support row of a row of m nodes, by the holders of its inner groups: each run holds the single samples.
-fn support_word(n: usize, m: usize, k: usize, holders: &[u16; TABLE], w: usize) -> u16
+fn support_word(n: usize, m: usize, k: usize, holders: &Table, w: usize) -> u16
     requires { ⌜ (m ≤ tableWords) × (k ≤ mostRuns) ⌝ }
     ensures { λ r. ⌜ r ≡ supportWord n m k (now (holders .entry)) w ⌝ }
 {
@@ -60,7 +59,7 @@ fn support_word(n: usize, m: usize, k: usize, holders: &[u16; TABLE], w: usize) 
 }
 
 // Writes these words.
-fn write_supports(n: usize, m: usize, k: usize, holders: &[u16; TABLE], out: &mut [u16])
+fn write_supports(n: usize, m: usize, k: usize, holders: &Table, out: &mut [u16])
     requires { ⌜ (m ≤ tableWords) × (k ≤ mostRuns) ⌝ }
     ensures { λ _. ⌜ Tabled (supportWord n m k (now (holders .entry))) 0 (length (now (out .entry))) (now (out .exit)) ⌝ }
 {
@@ -76,7 +75,7 @@ fn support_row(n: usize, words: &[u16], k: usize, row: &[u16], out: &mut [u16])
     requires { ⌜ Study (now words) n k × (0 < k) × (now row ≡ agreed majority n (runs (now words))) × (length (now out) ≡ rowWords n) ⌝ }
     ensures { λ _. ⌜ now (out .exit) ≡ supports majority n (runs (now (words .entry))) ⌝ }
 {
-    let mut held: [u16; TABLE] = [0; TABLE];
+    let mut held: Table = [0; TABLE];
     holders(n, words, k, row, &mut held);
     write_supports(n, nodes(row), k, &held, out);
 }

@@ -1,12 +1,14 @@
 -- What the loops that move words keep, and what moves make together: a slot put in, a slot closed up. Assumes nothing.
 use Prim.Native.Nat.{ℕ, zero, suc, _+_, _-_, _<_, _≤_}
 use mathlib.Core.Path.{_≡_, refl, sym, ap, _∙_}
-use mathlib.Core.List.{List, [], _∷_, _++_, append-assoc}
+use mathlib.Core.List.{List, [], _∷_, _++_, append-assoc, append-nil}
 use native.Mathlib.Nat.{sub-zero, zero-sub, suc-sub-suc, le-of-eq, zero-add, suc-add, not-suc-le-zero}
 use native.Mathlib.Numerals.{add-one, sub-one}
 use native.Mathlib.Omega.{arith}
-use lib.ListN.{length, getD, take, drop, set, take-append-drop, length-append, length-take, length-drop, List·getD-append}
-use lib.Seq.{paste, slice, paste-suc, take-all, take-nil, take-suc, take-suc-set, take-append-le, take-take, take-paste, drop-at, drop-drop, drop-paste, drop-set-lt, append-snoc, set-at, getD-take, getD-drop, getD-append-add, length-take-le, length-paste-head, slice-cons, slice-empty}
+use lib.ListN.{length, getD, take, drop, set, take-append-drop, drop-of-length-le, length-append, length-take, length-drop, List·getD-append}
+use lib.Seq.{paste, slice, paste-suc, take-all, take-nil, take-suc, take-suc-set, take-append-le, take-take, take-paste}
+use lib.Seq.{drop-at, drop-drop, drop-paste, drop-set-lt, append-snoc, set-at}
+use lib.Seq.{getD-take, getD-drop, getD-append-add, length-take-le, length-paste-head, slice-cons, slice-empty}
 use borrow.Rule.Slice.PartMut.{putMid}
 use Rattle.trees.specs.Lists.{zeros}
 use Rattle.trees.specs.ListLaws.{length-zeros}
@@ -34,6 +36,10 @@ lower-reads w₀ at d j e h =
 -- all of s at the front
 pub paste-front : (w s : List ℕ) (n : ℕ) → length s ≡ n → paste w 0 s (length s) ≡ s ++ drop n w
 paste-front w s n e = simp (e, take-all n s (le-of-eq e), zero-add)
+
+-- all of s over as many words
+pub paste-all : (w s : List ℕ) → length w ≡ length s → paste w 0 s (length s) ≡ s
+paste-all w s e = paste-front w s (length s) refl ∙ rw (drop-of-length-le w (le-of-eq e)) (append-nil s)
 
 -- ---- a loop that goes down and raises by d
 

@@ -1,16 +1,26 @@
-// The header of a study: its eight words by value, its limits, and the capacity.
+// The header of a study: its eight words by value, its limits, the width of a slot, and the capacity.
 use crate::moves::clear;
 use crate::moves::copy_in;
-use crate::search::slot_words;
 use judge::wide;
 ghost use mathlib.Core.Path.{_≡_};
 ghost use mathlib.Core.List.{[], _++_};
 ghost use Prim.Native.Nat.{_≤_};
 ghost use lib.ListN.{length, take, drop};
 ghost use Rattle.trees.specs.Checks.{mostSamples};
-ghost use Rattle.runs.specs.Words.{header, samples, inForce, headerWords, encode, capacity};
+ghost use Rattle.runs.specs.Words.{header, samples, inForce, headerWords, slotWords, encode, capacity};
 ghost use Rattle.runs.specs.Formed.{sameWords, Formed};
 ghost use Rattle.runs.specs.Words.{full};
+
+// "slots of 2n+1 words: identifier, then the row": where the row stands in its slot.
+pub const ROW_OFFSET: usize = 1;
+
+// The width of a slot.
+pub fn slot_words(n: usize) -> usize
+    requires { ⌜ n ≤ mostSamples ⌝ }
+    ensures { λ r. ⌜ r ≡ slotWords n ⌝ }
+{
+    2 * n + ROW_OFFSET
+}
 
 // "Word 4 is n, word 5 is k"
 pub struct Header {

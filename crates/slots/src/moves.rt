@@ -44,7 +44,7 @@ pub(crate) fn clear(words: &mut [u16], at: usize, count: usize)
 }
 
 // The words from `at` on become those of `source`.
-pub(crate) fn copy_in(words: &mut [u16], at: usize, source: &[u16])
+pub fn copy_in(words: &mut [u16], at: usize, source: &[u16])
     requires { ⌜ at + length (now source) ≤ length (now words) ⌝ }
     ensures { λ _. ⌜ now (words .exit) ≡ paste (now (words .entry)) at (now (source .entry)) (length (now (source .entry))) ⌝ }
 {

@@ -1,24 +1,16 @@
 // Where the slots of a study stand, and the search for one.
 use crate::header::Header;
+use crate::header::ROW_OFFSET;
 use crate::header::in_force;
 use crate::header::samples;
+use crate::header::slot_words;
 ghost use mathlib.Core.Path.{_≡_};
-ghost use Prim.Native.Nat.{_≤_};
+ghost use Prim.Native.Nat.{_+_, _≤_};
+ghost use lib.ListN.{length, drop};
 ghost use Rattle.trees.specs.Checks.{mostSamples};
-ghost use Rattle.runs.specs.Words.{slotWords, slotStart, mostRuns};
+ghost use Rattle.runs.specs.Words.{slotWords, slotStart, readRun, mostRuns};
 ghost use Rattle.runs.specs.Formed.{Formed};
 ghost use Rattle.slots.specs.Slots.{Spotted};
-
-// "slots of 2n+1 words: identifier, then the row": where the row stands in its slot.
-pub const ROW_OFFSET: usize = 1;
-
-// The width of a slot.
-pub fn slot_words(n: usize) -> usize
-    requires { ⌜ n ≤ mostSamples ⌝ }
-    ensures { λ r. ⌜ r ≡ slotWords n ⌝ }
-{
-    2 * n + ROW_OFFSET
-}
 
 // The word at which slot i begins.
 pub fn slot_start(n: usize, i: usize) -> usize
@@ -26,6 +18,15 @@ pub fn slot_start(n: usize, i: usize) -> usize
     ensures { λ r. ⌜ r ≡ slotStart n i ⌝ }
 {
     Header::WORDS + i * slot_words(n)
+}
+
+// The row of the slot that begins at word p.
+pub fn slot_row(words: &[u16], n: usize, p: usize) -> &[u16]
+    requires { ⌜ (n ≤ mostSamples) × (p + slotWords n ≤ length (now words)) ⌝ }
+    ensures { λ r. ⌜ now r ≡ readRun n (drop p (now (words .entry))) .row ⌝ }
+{
+    let from = p + ROW_OFFSET;
+    &words[from..from + 2 * n]
 }
 
 // Where an identifier stands among the slots, or the slot before which it would.

@@ -1,13 +1,13 @@
 // A run's slot put into a study, and one closed up.
 use crate::header::Header;
+use crate::header::ROW_OFFSET;
 use crate::header::in_force;
 use crate::header::samples;
+use crate::header::slot_words;
 use crate::moves::clear;
 use crate::moves::lower;
 use crate::moves::raise;
-use crate::search::ROW_OFFSET;
 use crate::search::slot_start;
-use crate::search::slot_words;
 ghost use mathlib.Core.Path.{_≡_};
 ghost use mathlib.Core.List.{_∷_};
 ghost use mathlib.Core.Bool.{false};
@@ -17,7 +17,7 @@ ghost use lib.Seq.{paste};
 ghost use Rattle.trees.specs.Checks.{rowWords};
 ghost use Rattle.trees.specs.Valid.{Valid};
 ghost use Rattle.trees.specs.Numbering.{renumbered};
-ghost use Rattle.runs.specs.Words.{samples, inForce, slotWords, slot};
+ghost use Rattle.runs.specs.Words.{samples, inForce, slotWords, slotStart, slot};
 ghost use Rattle.runs.specs.Formed.{Formed};
 ghost use Rattle.runs.specs.Calls.{stores};
 ghost use Rattle.runs.specs.Moves.{putAt, closeAt, slotPut, slotClosed};
@@ -60,6 +60,24 @@ fn close_at(words: &mut [u16], from: usize, to: usize, width: usize)
     clear(words, last, width);
 }
 
+// The words of the slots from one on, up to the end of the last.
+struct Span {
+    from: usize,
+    to: usize,
+}
+
+// The words of the slots from `at` on.
+fn span_of(words: &[u16], at: usize) -> Span
+    requires { ⌜ Formed (now words) × (at ≤ inForce (now words)) ⌝ }
+    ensures { λ r. ⌜ (r .from ≡ slotStart (samples (now (words .entry))) at)
+        × (r .to ≡ slotStart (samples (now (words .entry))) (inForce (now (words .entry)))) ⌝ }
+{
+    let n = samples(words);
+    let from = slot_start(n, at);
+    let to = slot_start(n, in_force(words));
+    Span { from, to }
+}
+
 // A run goes in as slot `at`, the later ones move up, and k is counted up.
 pub fn put_run(words: &mut [u16], at: usize, id: u16, row: &[u16])
     requires { ⌜ Formed (now words) × (at ≤ inForce (now words)) × (full (now words) ≡ false) × Valid (samples (now words)) (now row) ⌝ }
@@ -67,7 +85,8 @@ pub fn put_run(words: &mut [u16], at: usize, id: u16, row: &[u16])
 {
     let n = samples(words);
     let k = in_force(words);
-    put_at(words, n, slot_start(n, at), slot_start(n, k), id, row);
+    let span = span_of(words, at);
+    put_at(words, n, span.from, span.to, id, row);
     words[Header::IN_FORCE_AT] = (k + 1) as u16;
 }
 
@@ -76,8 +95,8 @@ pub fn close_run(words: &mut [u16], at: usize)
     requires { ⌜ Formed (now words) × (at < inForce (now words)) ⌝ }
     ensures { λ _. ⌜ now (words .exit) ≡ slotClosed (now (words .entry)) at ⌝ }
 {
-    let n = samples(words);
     let k = in_force(words);
-    close_at(words, slot_start(n, at), slot_start(n, k), slot_words(n));
+    let span = span_of(words, at);
+    close_at(words, span.from, span.to, slot_words(samples(words)));
     words[Header::IN_FORCE_AT] = (k - 1) as u16;
 }

@@ -8,7 +8,8 @@ use lib.Dec.{eqb}
 use lib.ListN.{length}
 use borrow.Author.Tests.{eqb-true, not-false}
 use Rattle.trees.specs.Lists.{nowhere}
-use Rattle.trees.specs.Checks.{Verdict, accepted, refused, Check, _⊳_, asked, fewestSamples, mostSamples, rowWords, outside, check1, check3, rowChecks, judgeChecks, judged}
+use Rattle.trees.specs.Checks.{Verdict, accepted, refused, Check, _⊳_, asked, fewestSamples, mostSamples, rowWords, outside}
+use Rattle.trees.specs.Checks.{check1, check3, rowChecks, judgeChecks, judged}
 use Rattle.trees.specs.Valid.{Valid}
 use Rattle.trees.specs.ChainLaws.{chain-append, passed-chain, chain-passed, chain-given, given-chain, asked-passes, line-passes}
 use Rattle.trees.specs.CheckLaws.{outside-not, not-outside}
@@ -17,7 +18,8 @@ use Rattle.runs.specs.Runs.{isSome, present, deleteRun}
 use Rattle.runs.specs.Words.{samples, headerWords, runs, encode}
 use Rattle.runs.specs.Formed.{wellFormed, Formed}
 use Rattle.trees.specs.Outcomes.{Outcome, outcome}
-use Rattle.runs.specs.Calls.{check2, check4, check11, check12, check13, openChecks, opened, addFormedChecks, addChecks, runsWith, added, withdrawFormedChecks, withdrawChecks, withdrawn}
+use Rattle.runs.specs.Calls.{check2, check4, check11, check12, check13, openChecks, addFormedChecks, addChecks, withdrawFormedChecks, withdrawChecks}
+use Rattle.runs.specs.Calls.{opened, runsWith, added, withdrawn}
 use Rattle.runs.specs.WordLaws.{capacity-room}
 use Rattle.runs.specs.CallLaws.{opened-accepts}
 use Rattle.runs.specs.AddLaws.{added-formed}

@@ -8,15 +8,15 @@ use native.Mathlib.Numerals.{add-one}
 use native.Mathlib.Omega.{arith}
 use lib.Dec.{ltb, leb}
 use lib.ListN.{length, getD, take, drop, drop-of-length-le}
-use lib.Seq.{drop-cons, drop-drop, getD-drop}
+use lib.Seq.{drop-cons, getD-drop}
 use borrow.Author.Tests.{leb-true, ne-eqb, not-true}
 use Rattle.trees.specs.Lists.{tabulate}
-use Rattle.trees.specs.Checks.{fewestSamples, mostSamples, rowWords, outside}
+use Rattle.trees.specs.Checks.{fewestSamples, mostSamples, outside}
 use Rattle.trees.specs.Reporting.{Run}
 use Rattle.trees.specs.BoolLaws.{and-l, and-r, not-yes}
 use Rattle.trees.specs.CheckLaws.{outside-not}
 use Rattle.runs.specs.Runs.{every, rising}
-use Rattle.runs.specs.Words.{header, samples, inForce, headerWords, rowOffset, slotStart, readRun, runAt, runs, mostRuns, capacity}
+use Rattle.runs.specs.Words.{header, samples, inForce, headerWords, slotStart, readRun, runAt, runs, mostRuns, capacity}
 use Rattle.runs.specs.Formed.{sameWords, isStored, zeroFrom, headed, sized, wellFormed}
 use Rattle.runs.specs.WordLaws.{capacity-short, capacity-most, capacity-room}
 use Rattle.runs.specs.FormedLaws.{formed-to}
@@ -38,11 +38,6 @@ module _ (w : List ℕ) (i : ℕ) where
   zero-end h = rw (drop-of-length-le w h)
 
 -- ---- slot i of k, at word p
-
--- the row in it, as the part of the words from a to below e
-pub row-part : (n p : ℕ) (w : List ℕ) → take (p + rowOffset + rowWords n - (p + rowOffset)) (drop (p + rowOffset) w) ≡ take (rowWords n)
-    (drop rowOffset (drop p w))
-row-part n p w = let e : p + rowOffset + rowWords n - (p + rowOffset) ≡ rowWords n = omega arith in rw (drop-drop rowOffset p w, e)
 
 pub slot-named : (n p : ℕ) (w : List ℕ) → readRun n (drop p w) .identifier ≡ getD w p 0
 slot-named n p w = getD-drop p w 0 0 ∙ ap (λ (i : ℕ). getD w i 0) (add-zero p)

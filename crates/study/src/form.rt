@@ -3,7 +3,7 @@ use judge::FEWEST_SAMPLES;
 use judge::MOST_SAMPLES;
 use judge::wide;
 use slots::Header;
-use slots::ROW_OFFSET;
+use slots::slot_row;
 use slots::slot_start;
 use slots::slot_words;
 use slots::starts_with;
@@ -35,9 +35,7 @@ fn slot_follows(words: &[u16], n: usize, p: usize, last: u16) -> bool
     if words[p] <= last {
         return false;
     }
-    let a = p + ROW_OFFSET;
-    let e = a + 2 * n;
-    passes::is_standard(n, &words[a..e])
+    passes::is_standard(n, slot_row(words, n, p))
 }
 
 // Whether k slots have rising identifiers, none of them 0, and rows in standard numbering.

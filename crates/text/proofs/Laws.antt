@@ -45,7 +45,8 @@ drop-next xs i h = drop-cons xs i 0 h ∙ ap (λ (j : ℕ). getD xs i 0 ∷ drop
 
 -- numbers put one by one
 pub fields-next : {text out₀ out out′ : List ℕ} {at₀ at at′ : ℕ} (xs : List ℕ) (i : ℕ) → i < length xs
-    → Left (spaced (map decimal (drop i xs))) out at text out₀ at₀ → Put (space ∷ decimal (getD xs i 0)) out at out′ at′ → Left (spaced (map decimal (drop (i + 1) xs))) out′ at′ text out₀ at₀
+    → Left (spaced (map decimal (drop i xs))) out at text out₀ at₀
+    → Put (space ∷ decimal (getD xs i 0)) out at out′ at′ → Left (spaced (map decimal (drop (i + 1) xs))) out′ at′ text out₀ at₀
 fields-next xs i h l p = left-field (map decimal (drop (i + 1) xs)) (rw (drop-next xs i h) at l) p
 
 -- the fields of the numbers from s to below n that pass a test

@@ -5,8 +5,7 @@ ghost use lib.Dec.{eqb};
 ghost use lib.ListN.{length};
 ghost use Rattle.trees.specs.Checks.{rowWords};
 ghost use Rattle.text.specs.Files.{wordAt, fileSamples, fileRuns, headBytes, fileBytes, begins, badFile, fileOf, slotIdentifier, slotRow};
-use crate::words::wide;
-use crate::words::wide_byte;
+use judge::wide;
 
 // "the mark ARB, then as 16-bit numbers, low byte first, version 1, n, k"
 pub const VERSION: u16 = 1;
@@ -28,6 +27,16 @@ pub enum File {
     Good(usize, usize),
 }
 
+// A word is its low byte and so many times its high byte.
+const HIGH: u16 = 256;
+
+// A byte as a word.
+fn wide_byte(b: u8) -> u16
+    ensures { λ r. ⌜ (r ≡ b) × (r < 256) ⌝ }
+{
+    b as u16
+}
+
 // The 16-bit number at a place, low byte first.
 fn word_at(bytes: &[u8], i: usize) -> u16
     requires { ⌜ i + 1 < length (now bytes) ⌝ }
@@ -35,7 +44,7 @@ fn word_at(bytes: &[u8], i: usize) -> u16
 {
     let low = wide_byte(bytes[i]);
     let high = wide_byte(bytes[i + 1]);
-    low + 256 * high
+    low + HIGH * high
 }
 
 // Whether a text stands at the front.

@@ -3,7 +3,6 @@ mod file;
 mod lines;
 mod node;
 mod put;
-mod words;
 
 pub use file::File;
 pub use file::MOST_BYTES;

@@ -16,29 +16,13 @@ use crate::put::put_byte;
 use crate::put::put_bytes;
 use crate::put::put_field;
 use crate::put::put_number;
-use crate::words::wide;
-
-// "65535 means that v is the root"
-const ROOT_MARK: usize = 65535;
+use judge::ROOT_MARK;
+use judge::nodes;
+use judge::parent;
+use judge::wide;
 
 // A mark for each node: there are fewer than twice 512.
 const MARKS: usize = 1024;
-
-// The number of nodes: "Word 0 is m."
-fn nodes(row: &[u16]) -> usize
-    requires { ⌜ 0 < length (now row) ⌝ }
-    ensures { λ r. ⌜ r ≡ nodes (now (row .entry)) ⌝ }
-{
-    wide(row[0])
-}
-
-// The parent of node v: "Word 1+v is the parent of node v".
-fn parent(row: &[u16], v: usize) -> usize
-    requires { ⌜ v + 1 < length (now row) ⌝ }
-    ensures { λ r. ⌜ r ≡ parent (now (row .entry)) v ⌝ }
-{
-    wide(row[v + 1])
-}
 
 // No node is marked.
 fn unmarked() -> [bool; MARKS]
@@ -68,7 +52,8 @@ fn marks_below(n: usize, row: &[u16], v: usize) -> [bool; MARKS]
 fn put_samples(n: usize, row: &[u16], marks: &[bool; MARKS], out: &mut [u8], at: usize) -> usize
     requires { ⌜ (n ≤ mostSamples) × (n < length (now row)) × (at + sampleBytes * n ≤ length (now out)) ⌝ }
     requires { ⌜ ((s : ℕ) → s < n → parent (now row) s < markCount) ⌝ }
-    ensures { λ r. ⌜ Put (spaced (map decimal (filter (parentMarked (now (marks .entry)) (now (row .entry))) (range 0 n)))) (now (out .entry)) at (now (out .exit)) r ⌝ }
+    ensures { λ r. ⌜ Put (spaced (map decimal (filter (parentMarked (now (marks .entry)) (now (row .entry))) (range 0 n))))
+        (now (out .entry)) at (now (out .exit)) r ⌝ }
     ensures { λ r. ⌜ r ≤ at + sampleBytes * n ⌝ }
 {
     let mut next = at;

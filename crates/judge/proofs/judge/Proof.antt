@@ -32,7 +32,8 @@ returns-2 : tie.Need-returns-2
 unfolding judged judgeChecks
 returns-2 c =
     let samples-passed = c .before .before .before in
-    stops _ _ (c .before .before .words .ensures) _ _ _ (c .enum-told4 .given .1) ∙ goes _ _ (samples-passed .before .before .samples .ensures) _ (samples-passed .enum-told .given .1)
+    stops _ _ (c .before .before .words .ensures) _ _ _ (c .enum-told4 .given .1)
+    ∙ goes _ _ (samples-passed .before .before .samples .ensures) _ (samples-passed .enum-told .given .1)
 
 check-row-requires : tie.Need-check-row-requires
 check-row-requires c κs = search (passed1-fewest, passed1-most, passed3)
@@ -42,7 +43,8 @@ unfolding judged judgeChecks
 returns-3 c =
     let words-passed = c .before in
     let samples-passed = words-passed .before .before .before in
-    c .check-row .ensures ∙ goes _ _ (words-passed .before .before .words .ensures) _ (words-passed .enum-told3 .given .1) ∙ goes _ _ (samples-passed .before .before .samples .ensures) _ (samples-passed .enum-told .given .1)
+    c .check-row .ensures ∙ goes _ _ (words-passed .before .before .words .ensures) _ (words-passed .enum-told3 .given .1)
+    ∙ goes _ _ (samples-passed .before .before .samples .ensures) _ (samples-passed .enum-told .given .1)
 
 pub judge-spec : {M : Type 1} → statement M
 judge-spec =

@@ -30,7 +30,8 @@ stray-requires c κs = search needs
 returns : tie.Need-returns Inv-loop μ-loop
 returns c =
     let l = c .before .before .before .before in
-    scan-hit (l .loop .inv) 6 (omega arith) (rw (← l .before .nodes .ensures, ← c .before .before .parent .ensures) (sym (c .before .stray .ensures) ∙ c .if1 .taken))
+    scan-hit (l .loop .inv) 6 (omega arith)
+    (rw (← l .before .nodes .ensures, ← c .before .before .parent .ensures) (sym (c .before .stray .ensures) ∙ c .if1 .taken))
 
 add-v : tie.Need-add-v Inv-loop μ-loop
 add-v c = search needs
@@ -41,7 +42,8 @@ loop-less c = search needs
 loop-again : tie.Need-loop-again Inv-loop μ-loop
 loop-again c =
     let l = c .before .before .before .before in
-    scan-pass (l .loop .inv) (omega arith) (rw (← l .before .nodes .ensures, ← c .before .before .parent .ensures) (sym (c .before .stray .ensures) ∙ c .if1 .left))
+    scan-pass (l .loop .inv) (omega arith)
+    (rw (← l .before .nodes .ensures, ← c .before .before .parent .ensures) (sym (c .before .stray .ensures) ∙ c .if1 .left))
 
 returns-2 : tie.Need-returns-2 Inv-loop μ-loop
 returns-2 c = scan-end (c .before .loop .inv) 6 (omega arith)

@@ -39,7 +39,8 @@ loop-less c =
     let w : tie.After-wide Inv-loop μ-loop = search needs in
     let t : tie.Then1 Inv-loop μ-loop = search needs in
     let k : st .args .i ≤ entry (now (st .args .up)) (l .loop .u) = omega (arith, w .wide .ensures .0, t .if1 .taken) in
-    omega (arith, c .parent .ensures, climb-lower (st .pre .0) (now (st .args .up)) (st .args .i) (l .loop .u) (st .pre .1) (l .loop .inv .1) (omega (arith, st .pre .3)) k)
+    let lower = climb-lower (st .pre .0) (now (st .args .up)) (st .args .i) (l .loop .u) (st .pre .1) (l .loop .inv .1) (omega (arith, st .pre .3)) k in
+    omega (arith, c .parent .ensures, lower)
 
 loop-again : tie.Need-loop-again Inv-loop μ-loop
 loop-again c =
@@ -49,14 +50,16 @@ loop-again c =
     let t : tie.Then1 Inv-loop μ-loop = search needs in
     let k : st .args .i ≤ entry (now (st .args .up)) (l .loop .u) = omega (arith, w .wide .ensures .0, t .if1 .taken) in
     let d = climb-lower (st .pre .0) (now (st .args .up)) (st .args .i) (l .loop .u) (st .pre .1) (l .loop .inv .1) (omega (arith, st .pre .3)) k in
-    (rw (c .parent .ensures) (sym (climb-on (st .pre .0) (now (st .args .up)) (st .args .i) (l .loop .u) (st .pre .1) (l .loop .inv .1) (omega (arith, st .pre .3)) k) ∙ l .loop .inv .0), omega (arith, c .parent .ensures), omega (arith, c .parent .ensures))
+    let on = climb-on (st .pre .0) (now (st .args .up)) (st .args .i) (l .loop .u) (st .pre .1) (l .loop .inv .1) (omega (arith, st .pre .3)) k in
+    (rw (c .parent .ensures) (sym on ∙ l .loop .inv .0), omega (arith, c .parent .ensures), omega (arith, c .parent .ensures))
 
 returns : tie.Need-returns Inv-loop μ-loop
 returns c =
     let st : tie.Start Inv-loop μ-loop = search needs in
     let l : tie.At-loop Inv-loop μ-loop = search needs in
     let w : tie.After-wide Inv-loop μ-loop = search needs in
-    sym (climb-stop (st .pre .0) (now (st .args .up)) (nodes (now (st .args .row))) (st .args .i) (l .loop .u) (omega (arith, w .wide .ensures .0, c .if1 .left))) ∙ l .loop .inv .0
+    sym (climb-stop (st .pre .0) (now (st .args .up)) (nodes (now (st .args .row))) (st .args .i) (l .loop .u)
+    (omega (arith, w .wide .ensures .0, c .if1 .left))) ∙ l .loop .inv .0
 
 pub climb-spec : {M : Type 1} → statement M
 climb-spec =

@@ -38,7 +38,9 @@ loop-holds c =
     let m : tie.After-nodes Inv-loop μ-loop = search needs in
     let o : tie.After-nodes2 Inv-loop μ-loop = search needs in
     let x : tie.After-next-kept Inv-loop μ-loop = search needs in
-    (lock-start (st .pre .0) (st .pre .3) (st .pre .4) (st .pre .5) (rw (m .nodes .ensures) at (x .next-kept .ensures)) (rw (o .nodes2 .ensures) at (c .next-kept2 .ensures)), m .nodes .ensures, o .nodes2 .ensures)
+    let first = rw (m .nodes .ensures) at (x .next-kept .ensures) in
+    let second = rw (o .nodes2 .ensures) at (c .next-kept2 .ensures) in
+    (lock-start (st .pre .0) (st .pre .3) (st .pre .4) (st .pre .5) first second, m .nodes .ensures, o .nodes2 .ensures)
 
 choose-next-requires : tie.Need-choose-next-requires Inv-loop μ-loop
 choose-next-requires c κs =
@@ -76,7 +78,12 @@ give-requires c κs =
     let left = rw (l .loop .inv .1, l .loop .inv .2) at (i .loop-test .taken) in
     let k : tie.After-choose-next Inv-loop μ-loop = search needs in
     let t = rw (l .loop .inv .1, l .loop .inv .2) at (k .choose-next .ensures) in
-    (l .loop .inv .0 .left .words, omega (arith, l .loop .inv .1, st .pre .0 .first .valid .high, st .pre .0 .first .valid .most), room i, λ e. omega (arith, l .loop .inv .1, first-taken (st .pre .0) (l .loop .inv .0) (st .pre .1) (st .pre .2) left t e))
+    let there = first-taken (st .pre .0) (l .loop .inv .0) (st .pre .1) (st .pre .2) left t in (
+      l .loop .inv .0 .left .words,
+      omega (arith, l .loop .inv .1, st .pre .0 .first .valid .high, st .pre .0 .first .valid .most),
+      room i,
+      λ e. omega (arith, l .loop .inv .1, there e),
+    )
 
 give-requires-2 : tie.Need-give-requires-2 Inv-loop μ-loop
 give-requires-2 c κs =
@@ -86,7 +93,12 @@ give-requires-2 c κs =
     let left = rw (l .loop .inv .1, l .loop .inv .2) at (i .loop-test .taken) in
     let k : tie.After-choose-next Inv-loop μ-loop = search needs in
     let t = rw (l .loop .inv .1, l .loop .inv .2) at (k .choose-next .ensures) in
-    (l .loop .inv .0 .right .words, omega (arith, l .loop .inv .2, st .pre .0 .second .valid .high, st .pre .0 .second .valid .most), room i, λ e. omega (arith, l .loop .inv .2, second-taken (st .pre .0) (l .loop .inv .0) (st .pre .1) (st .pre .2) left t e))
+    let there = second-taken (st .pre .0) (l .loop .inv .0) (st .pre .1) (st .pre .2) left t in (
+      l .loop .inv .0 .right .words,
+      omega (arith, l .loop .inv .2, st .pre .0 .second .valid .high, st .pre .0 .second .valid .most),
+      room i,
+      λ e. omega (arith, l .loop .inv .2, there e),
+    )
 
 add-c : tie.Need-add-c Inv-loop μ-loop
 add-c c =

@@ -47,7 +47,8 @@ write-row-requires c κs =
     let st = began q in
     let r = raised q in
     let m = numbered q in
-    (st .pre .0 .first, st .pre .0 .second, merged-climbable (st .pre .0) (m .numbers .ensures) (r .raise .ensures .0) (q .raise2 .ensures .0) .most, st .pre .1)
+    let few = merged-climbable (st .pre .0) (m .numbers .ensures) (r .raise .ensures .0) (q .raise2 .ensures .0) .most in
+    (st .pre .0 .first, st .pre .0 .second, few, st .pre .1)
 
 same-length : tie.Need-same-length
 same-length c = search needs
@@ -60,7 +61,8 @@ returns c =
     let m = numbered q in
     let p = c .before .before .before .before .before .before .before in
     let w = c .before .before in
-    merged-row (st .pre .0) (m .numbers .ensures) (r .raise .ensures .0) (q .raise2 .ensures .0) (p .parents .ensures) (w .write-row .kept .1 .1 .1 .1 .1 .1 .1 .0 ∙ st .pre .1) (w .write-row .ensures)
+    merged-row (st .pre .0) (m .numbers .ensures) (r .raise .ensures .0) (q .raise2 .ensures .0) (p .parents .ensures)
+    (w .write-row .kept .1 .1 .1 .1 .1 .1 .1 .0 ∙ st .pre .1) (w .write-row .ensures)
 
 pub merge-spec : {M : Type 1} → statement M
 merge-spec =

@@ -85,6 +85,9 @@ loop-again c =
     let t = climbs-sample (st .pre) (l .loop .inv) (omega arith) in
     rw (c .larger .ensures) (climbs-step (st .pre) (l .loop .inv) (omega arith) (w .wide .ensures .0 ∙ t .0) (u .lift .ensures) (v .lift2 .ensures))
 
+cast-mins : tie.Need-cast-mins Inv-loop μ-loop
+cast-mins c = search needs
+
 mul-mins-2 : tie.Need-mul-mins-2 Inv-loop μ-loop
 mul-mins-2 c = search needs
 
@@ -118,6 +121,7 @@ parents-spec =
     element-write-mins
     loop-less
     loop-again
+    cast-mins
     mul-mins-2
     element-write-mins-2
     returns)

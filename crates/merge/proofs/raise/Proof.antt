@@ -74,8 +74,13 @@ loop-again : tie.Need-loop-again Inv-loop μ-loop
 loop-again c =
     let st : tie.Start Inv-loop μ-loop = search needs in
     let l : tie.At-loop Inv-loop μ-loop = search needs in
-    let p : tie.After-parent Inv-loop μ-loop = search needs in
-    (raising-step (st .pre .0) (l .loop .inv .0) (l .loop .inv .1) (omega arith) (rw (p .parent .ensures) at (c .own-or .ensures)), omega arith, omega arith, l .loop .inv .3)
+    let p : tie.After-parent Inv-loop μ-loop = search needs in (
+      raising-step (st .pre .0) (l .loop .inv .0) (l .loop .inv .1) (omega arith)
+          (rw (p .parent .ensures) at (c .own-or .ensures)),
+      omega arith,
+      omega arith,
+      l .loop .inv .3,
+    )
 
 returns : tie.Need-returns Inv-loop μ-loop
 returns c =

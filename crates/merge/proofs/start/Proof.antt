@@ -7,7 +7,7 @@ use Rattle.trees.specs.Tables.{Tabled}
 use Rattle.trees.specs.Rows.{parent}
 use lib.ListN.{length, length-set}
 use native.Mathlib.Omega.{arith}
-use mathlib.Core.Path.{_≡_, _∙_}
+use mathlib.Core.Path.{_≡_}
 use Prim.Native.Nat.{_≤_, _-_}
 use borrow.Author.Needs.{needs}
 use Rattle.merge.proofs.start.Statement.{statement}
@@ -47,8 +47,11 @@ loop-again : tie.Need-loop-again Inv-loop μ-loop
 unfolding parent
 loop-again c =
     let a = c .before .before .before .args in
-    let l = c .before .before .loop in
-    (tabled-more (parent (now (a .row))) 0 (l .s) _ (l .places) (l .inv .0) (omega arith) (rw add-one), length-set (l .places) (l .s) _ ∙ l .inv .1, search needs)
+    let l = c .before .before .loop in (
+      tabled-more (parent (now (a .row))) 0 (l .s) _ (l .places) (l .inv .0) (omega arith) (rw add-one),
+      simp length-set (l .inv .1),
+      search needs,
+    )
 
 returns : tie.Need-returns Inv-loop μ-loop
 returns c =

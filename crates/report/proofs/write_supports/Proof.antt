@@ -1,6 +1,6 @@
 -- `report::write_supports` writes word by word. Assumes nothing.
 use Prim.Native.Nat.{_-_, _≤_}
-use mathlib.Core.Path.{_≡_, refl, _∙_}
+use mathlib.Core.Path.{_≡_, refl}
 use native.Mathlib.Omega.{arith}
 use lib.ListN.{length, length-set}
 use denote.Ref.{now}
@@ -15,7 +15,7 @@ abbrev Inv-loop : tie.InvT-loop
 Inv-loop n m k holders out₀ w₀ out w = Tabled (supportWord n m k holders) 0 w out × (length out ≡ length out₀) × (w ≤ length out₀)
 
 abbrev μ-loop : tie.MeasureT-loop
-μ-loop n m k holders out₀ w₀ out w = length out - w
+μ-loop n m k holders out₀ w₀ out w = length out₀ - w
 
 loop-holds : tie.Need-loop-holds Inv-loop μ-loop
 loop-holds c = (tabled-none _ 0 _, refl, omega arith)
@@ -33,16 +33,13 @@ add-w : tie.Need-add-w Inv-loop μ-loop
 add-w c = search needs
 
 loop-less : tie.Need-loop-less Inv-loop μ-loop
-loop-less c =
-    let l : tie.At-loop Inv-loop μ-loop = search needs in
-    rw length-set (omega (arith, l .loop .inv .1))
+loop-less c = search needs
 
 loop-again : tie.Need-loop-again Inv-loop μ-loop
 loop-again c =
     let l : tie.At-loop Inv-loop μ-loop = search needs in (
       tabled-more _ 0 (l .loop .w) _ (l .loop .out) (l .loop .inv .0) (omega arith) (c .support-word .ensures),
-      length-set (l .loop .out) (l .loop .w) _ ∙ l
-          .loop .inv .1,
+      simp length-set (l .loop .inv .1),
       omega (arith, l .loop .inv .1),
     )
 

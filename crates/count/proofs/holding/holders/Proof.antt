@@ -30,7 +30,7 @@ run-row-requires : tie.Need-run-row-requires Inv-loop μ-loop
 run-row-requires c κs =
     let st : tie.Start Inv-loop μ-loop = search needs in
     let l : tie.At-loop Inv-loop μ-loop = search needs in
-    (study-most _ _ _ (st .pre .0), study-room _ _ _ (st .pre .0) (l .loop .j) (omega arith))
+    (study-most _ _ _ (st .pre .0), omega (arith, study-few _ _ _ (st .pre .0)), study-room _ _ _ (st .pre .0) (l .loop .j) (omega arith))
 
 count-run-requires : tie.Need-count-run-requires Inv-loop μ-loop
 count-run-requires c κs =

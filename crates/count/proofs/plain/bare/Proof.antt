@@ -16,7 +16,7 @@ abbrev Inv-loop : tie.InvT-loop
 Inv-loop n out₀ w₀ out w = Tabled (λ u. getD (bareRow n) u 0) 0 w out × (length out ≡ rowWords n) × (w ≤ rowWords n)
 
 abbrev μ-loop : tie.MeasureT-loop
-μ-loop n out₀ w₀ out w = length out - w
+μ-loop n out₀ w₀ out w = rowWords n - w
 
 loop-holds : tie.Need-loop-holds Inv-loop μ-loop
 loop-holds c =
@@ -36,16 +36,13 @@ add-w : tie.Need-add-w Inv-loop μ-loop
 add-w c = search needs
 
 loop-less : tie.Need-loop-less Inv-loop μ-loop
-loop-less c =
-    let l : tie.At-loop Inv-loop μ-loop = search needs in
-    rw length-set (omega (arith, l .loop .inv .1))
+loop-less c = search needs
 
 loop-again : tie.Need-loop-again Inv-loop μ-loop
 loop-again c =
     let l : tie.At-loop Inv-loop μ-loop = search needs in (
       tabled-more _ 0 (l .loop .w) _ (l .loop .out) (l .loop .inv .0) (omega arith) (c .bare-word .ensures),
-      length-set (l .loop .out) (l .loop .w) _ ∙ l
-          .loop .inv .1,
+      simp length-set (l .loop .inv .1),
       omega (arith, l .loop .inv .1),
     )
 

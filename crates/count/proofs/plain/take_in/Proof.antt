@@ -8,7 +8,7 @@ use lib.ListN.{length, length-replicate}
 use denote.Ref.{now}
 use Rattle.trees.specs.Valid.{Standard}
 use Rattle.trees.specs.FallsLaws.{few, standard-falls}
-use Rattle.count.specs.StudyLaws.{study-most, study-room, study-standard}
+use Rattle.count.specs.StudyLaws.{study-most, study-few, study-room, study-standard}
 use borrow.Author.Needs.{needs}
 use Rattle.count.proofs.plain.take_in.Statement.{statement}
 use Rattle.count.proofs.plain.take_in.Tie as tie
@@ -28,7 +28,7 @@ noded c = search needs
 run-row-requires : tie.Need-run-row-requires
 run-row-requires c κs =
     let st : tie.Start = search needs in
-    (study-most _ _ _ (st .pre .0), study-room _ _ _ (st .pre .0) (st .args .i) (st .pre .1))
+    (study-most _ _ _ (st .pre .0), omega (arith, st .pre .1, study-few _ _ _ (st .pre .0)), study-room _ _ _ (st .pre .0) (st .args .i) (st .pre .1))
 
 holders-requires : tie.Need-holders-requires
 holders-requires c κs =

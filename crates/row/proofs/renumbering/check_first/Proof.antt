@@ -43,7 +43,8 @@ check-row-requires c κs =
     let samples-passed = c .before .before .before in
     let one = samples-passed .before .before .samples .ensures in
     let ok = samples-passed .enum-told .given .1 in
-    let words = passed3-first (start .args .n) (now (start .args .first)) (now (start .args .second)) _ (c .before .before .words-both .ensures) (c .enum-told3 .given .1) in
+    let words = passed3-first (start .args .n) (now (start .args .first)) (now (start .args .second)) _
+    (c .before .before .words-both .ensures) (c .enum-told3 .given .1) in
     (passed1-fewest _ _ one ok, passed1-most _ _ one ok, words)
 
 returns-3 : tie.Need-returns-3

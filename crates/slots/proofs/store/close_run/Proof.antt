@@ -11,47 +11,27 @@ use borrow.Author.Needs.{needs}
 use Rattle.slots.proofs.store.close_run.Statement.{statement}
 use Rattle.slots.proofs.store.close_run.Tie as tie
 
-samples-requires : tie.Need-samples-requires
-samples-requires c κs = search formed-long
-
 in-force-requires : tie.Need-in-force-requires
 in-force-requires c κs = search formed-long
 
-slot-start-requires : tie.Need-slot-start-requires
-slot-start-requires c κs =
-    let st : tie.Start = search needs in
-    let a = st .args in
-    let w = now (a .words) in
-    let n : tie.After-samples = search needs in
-    rw (n .samples .ensures) (st .pre .0 .most, omega (arith, formed-few w (st .pre .0)))
+span-of-requires : tie.Need-span-of-requires
+span-of-requires c κs = search needs
 
-slot-start-requires-2 : tie.Need-slot-start-requires-2
-slot-start-requires-2 c κs =
-    let st : tie.Start = search needs in
-    let a = st .args in
-    let w = now (a .words) in
-    let n : tie.After-samples = search needs in
-    let k : tie.After-in-force = search needs in
-    rw (n .samples .ensures, k .in-force .ensures) (st .pre .0 .most, formed-few w (st .pre .0))
+samples-requires : tie.Need-samples-requires
+samples-requires c κs = search formed-long
 
 slot-words-requires : tie.Need-slot-words-requires
-slot-words-requires c κs =
-    let st : tie.Start = search needs in
-    let n : tie.After-samples = search needs in
-    rw (n .samples .ensures) (st .pre .0 .most)
+slot-words-requires c κs = search needs
 
 close-at-requires : tie.Need-close-at-requires
 close-at-requires c κs =
     let st : tie.Start = search needs in
-    let a = st .args in
-    let w = now (a .words) in
+    let w = now (st .args .words) in
     let n : tie.After-samples = search needs in
-    let k : tie.After-in-force = search needs in
-    let from : tie.After-slot-start = search needs in
-    let to : tie.After-slot-start2 = search needs in
+    let s : tie.After-span-of = search needs in
     let v : tie.After-slot-words = search needs in
-    rw (from .slot-start .ensures, to .slot-start2 .ensures, v .slot-words .ensures, n .samples .ensures, k .in-force .ensures)
-    (slot-within (samples w) (a .at) (inForce w) (slotStart (samples w) (inForce w)) (st .pre .1) (omega arith), formed-fits w (st .pre .0))
+    rw (s .span-of .ensures .0, s .span-of .ensures .1, v .slot-words .ensures, n .samples .ensures)
+    (slot-within (samples w) (st .args .at) (inForce w) (slotStart (samples w) (inForce w)) (st .pre .1) (omega arith), formed-fits w (st .pre .0))
 
 sub-words : tie.Need-sub-words
 sub-words c = search needs
@@ -78,26 +58,21 @@ same-length c = search needs
 returns : tie.Need-returns
 returns c =
     let st : tie.Start = search needs in
-    let a = st .args in
-    let w = now (a .words) in
     let n : tie.After-samples = search needs in
     let k : tie.After-in-force = search needs in
-    let from : tie.After-slot-start = search needs in
-    let to : tie.After-slot-start2 = search needs in
+    let s : tie.After-span-of = search needs in
     let v : tie.After-slot-words = search needs in
     let p : tie.After-close-at = search needs in
-    let e = rw (from .slot-start .ensures, to .slot-start2 .ensures, v .slot-words .ensures, n .samples .ensures, k .in-force .ensures) at
-    (p .close-at .ensures) in
-    rw (k .in-force .ensures) (ap (λ (ws : List ℕ). set ws inForceAt (inForce w - 1)) e)
+    let e = rw (s .span-of .ensures .0, s .span-of .ensures .1, v .slot-words .ensures, n .samples .ensures) at (p .close-at .ensures) in
+    rw (k .in-force .ensures) (ap (λ (ws : List ℕ). set ws inForceAt (inForce (now (st .args .words)) - 1)) e)
 
 pub close-run-spec : {M : Type 1} → statement M
 close-run-spec =
     tie.close
     (tie.spec
-    samples-requires
     in-force-requires
-    slot-start-requires
-    slot-start-requires-2
+    span-of-requires
+    samples-requires
     slot-words-requires
     close-at-requires
     sub-words

@@ -17,34 +17,17 @@ samples-requires c κs = search formed-long
 in-force-requires : tie.Need-in-force-requires
 in-force-requires c κs = search formed-long
 
-slot-start-requires : tie.Need-slot-start-requires
-slot-start-requires c κs =
-    let st : tie.Start = search needs in
-    let a = st .args in
-    let w = now (a .words) in
-    let n : tie.After-samples = search needs in
-    rw (n .samples .ensures) (st .pre .0 .most, omega (arith, formed-few w (st .pre .0)))
-
-slot-start-requires-2 : tie.Need-slot-start-requires-2
-slot-start-requires-2 c κs =
-    let st : tie.Start = search needs in
-    let a = st .args in
-    let w = now (a .words) in
-    let n : tie.After-samples = search needs in
-    let k : tie.After-in-force = search needs in
-    rw (n .samples .ensures, k .in-force .ensures) (st .pre .0 .most, formed-few w (st .pre .0))
+span-of-requires : tie.Need-span-of-requires
+span-of-requires c κs = search needs
 
 put-at-requires : tie.Need-put-at-requires
 put-at-requires c κs =
     let st : tie.Start = search needs in
-    let a = st .args in
-    let w = now (a .words) in
+    let w = now (st .args .words) in
     let n : tie.After-samples = search needs in
-    let k : tie.After-in-force = search needs in
-    let to : tie.After-slot-start2 = search needs in
-    let room = next-fits w (st .pre .0) (st .pre .2) in
-    let order = slot-order (n .samples .result) (a .at) (k .in-force .result) (omega (arith, k .in-force .ensures)) in
-    (omega (arith, order), rw (to .slot-start2 .ensures, n .samples .ensures, k .in-force .ensures) (room .1), rw (n .samples .ensures) (st .pre .3))
+    let s : tie.After-span-of = search needs in
+    rw (s .span-of .ensures .0, s .span-of .ensures .1, n .samples .ensures)
+    (slot-order (samples w) (st .args .at) (inForce w) (st .pre .1), next-fits w (st .pre .0) (st .pre .2) .1, st .pre .3)
 
 add-words : tie.Need-add-words
 add-words c = search needs
@@ -71,14 +54,12 @@ same-length c = search needs
 returns : tie.Need-returns
 returns c =
     let st : tie.Start = search needs in
-    let a = st .args in
-    let w = now (a .words) in
+    let w = now (st .args .words) in
     let n : tie.After-samples = search needs in
     let k : tie.After-in-force = search needs in
-    let from : tie.After-slot-start = search needs in
-    let to : tie.After-slot-start2 = search needs in
+    let s : tie.After-span-of = search needs in
     let p : tie.After-put-at = search needs in
-    let e = rw (from .slot-start .ensures, to .slot-start2 .ensures, n .samples .ensures, k .in-force .ensures) at (p .put-at .ensures) in
+    let e = rw (s .span-of .ensures .0, s .span-of .ensures .1, n .samples .ensures) at (p .put-at .ensures) in
     let more : k .in-force .result + 1 ≡ suc (inForce w) = omega (arith, k .in-force .ensures) in
     ap (λ (j : ℕ). set (p .put-at .last .0) inForceAt j) more ∙ ap (λ (ws : List ℕ). set ws inForceAt (suc (inForce w))) e
 
@@ -88,8 +69,7 @@ put-run-spec =
     (tie.spec
     samples-requires
     in-force-requires
-    slot-start-requires
-    slot-start-requires-2
+    span-of-requires
     put-at-requires
     add-words
     cast-words

@@ -8,7 +8,7 @@ use Rattle.runs.specs.Words.{readRun, mostIdentifier}
 use mathlib.Core.Path.{_≡_, ap, _∙_}
 use native.Mathlib.Omega.{arith}
 use denote.Ref.{now}
-use Rattle.study.proofs.FormLaws.{slot-named, row-part}
+use Rattle.study.proofs.FormLaws.{slot-named}
 use borrow.Author.Needs.{needs}
 use Rattle.study.proofs.form.slot_follows.Statement.{statement}
 use Rattle.study.proofs.form.slot_follows.Tie as tie
@@ -26,26 +26,8 @@ returns c =
     (le-ltb _ _ (c .if1 .taken)) in
     rw e
 
-add-a : tie.Need-add-a
-add-a c = search needs
-
-mul-e : tie.Need-mul-e
-mul-e c = search needs
-
-add-e : tie.Need-add-e
-add-e c = search needs
-
-mul-is-standard : tie.Need-mul-is-standard
-mul-is-standard c = search needs
-
-sub-is-standard : tie.Need-sub-is-standard
-sub-is-standard c = search needs
-
-part-is-standard-start : tie.Need-part-is-standard-start
-part-is-standard-start c = search needs
-
-part-is-standard-end : tie.Need-part-is-standard-end
-part-is-standard-end c = search needs
+slot-row-requires : tie.Need-slot-row-requires
+slot-row-requires c κs = search needs
 
 is-standard-requires : tie.Need-is-standard-requires
 is-standard-requires c κs = search needs
@@ -62,7 +44,8 @@ returns-2 c =
     let above : ltb (a .last) (x .identifier) ≡ true = rw d (lt-ltb _ _ (e .if1 .left)) in
     let word : leb (x .identifier) mostIdentifier ≡ true = rw d
     (le-leb (getD w (a .p) 0) mostIdentifier (omega (arith, k .shared-slice-known .given (a .p)))) in
-    rw (above, word) (c .is-standard .ensures ∙ ap (standard (a .n)) (row-part (a .n) (a .p) w))
+    let r : tie.After-slot-row = search needs in
+    rw (above, word) (c .is-standard .ensures ∙ ap (standard (a .n)) (r .slot-row .ensures))
 
 pub slot-follows-spec : {M : Type 1} → statement M
 slot-follows-spec =
@@ -71,12 +54,6 @@ slot-follows-spec =
     mul-if1
     shared-slice-read-if1
     returns
-    add-a
-    mul-e
-    add-e
-    mul-is-standard
-    sub-is-standard
-    part-is-standard-start
-    part-is-standard-end
+    slot-row-requires
     is-standard-requires
     returns-2)

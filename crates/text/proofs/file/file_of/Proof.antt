@@ -38,7 +38,8 @@ returns-2 c =
     let b : tie.Else1 = search needs in
     let n : tie.After-wide = search needs in
     let k : tie.After-wide2 = search needs in
-    rw (sym (b .before .is-bad .ensures) ∙ b .if1 .left, n .wide .ensures .0, n .before .word-at .ensures, k .wide2 .ensures .0, k .before .word-at2 .ensures) refl
+    let good = sym (b .before .is-bad .ensures) ∙ b .if1 .left in
+    rw (good, n .wide .ensures .0, n .before .word-at .ensures, k .wide2 .ensures .0, k .before .word-at2 .ensures) refl
 
 pub file-of-spec : {M : Type 1} → statement M
 file-of-spec =

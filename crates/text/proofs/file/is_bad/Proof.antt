@@ -32,7 +32,8 @@ fitting-requires c κs = near (c .before .before .before)
 returns-2 : tie.Need-returns-2
 returns-2 c =
     let e : tie.Else1 = c .before .before .before .before in
-    rw (bad-near (e .before .before .args .bytes .now) (e .if1 .left), c .before .before .begins .ensures, c .before .word-at .ensures, c .fitting .ensures) refl
+    let near = bad-near (e .before .before .args .bytes .now) (e .if1 .left) in
+    rw (near, c .before .before .begins .ensures, c .before .word-at .ensures, c .fitting .ensures) refl
 
 pub is-bad-spec : {M : Type 1} → statement M
 is-bad-spec =

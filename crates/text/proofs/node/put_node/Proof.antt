@@ -42,7 +42,8 @@ returns c =
     let p : tie.After-parent = w .before .before in
     let a : tie.Start = p .before .before .before .before in
     put-written (omega (arith, b .put-byte .ensures .place, g .put-group .ensures .1, f .put-front .ensures .1, a .pre .0 .valid .most, a .pre .4))
-    (rw (node-line (a .args .n) (a .args .row .now) (a .args .support .now) (a .args .v) (p .parent .result) (w .wide .result) (p .parent .ensures) (w .wide .ensures .0))
+    (rw (node-line (a .args .n) (a .args .row .now) (a .args .support .now) (a .args .v) (p .parent .result) (w .wide .result)
+    (p .parent .ensures) (w .wide .ensures .0))
     at (put-then (put-then (f .put-front .ensures .0) (g .put-group .ensures .0)) (b .put-byte .ensures)))
 
 pub put-node-spec : {M : Type 1} → statement M

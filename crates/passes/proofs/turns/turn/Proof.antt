@@ -1,10 +1,10 @@
--- `passes::row::turn` meets its contract. Assumes nothing.
+-- `passes::turns::turn` meets its contract. Assumes nothing.
 use Rattle.trees.specs.TurnLaws.{turn-leaf, turn-inner}
 use mathlib.Core.Path.{sym}
 use native.Mathlib.Omega.{arith}
 use borrow.Author.Needs.{needs}
-use Rattle.passes.proofs.row.turn.Statement.{statement}
-use Rattle.passes.proofs.row.turn.Tie as tie
+use Rattle.passes.proofs.turns.turn.Statement.{statement}
+use Rattle.passes.proofs.turns.turn.Tie as tie
 
 returns : tie.Need-returns
 returns c = sym (turn-leaf _ (c .before .args .m) _ (c .if1 .taken))

@@ -1,4 +1,4 @@
--- `passes::row::step` meets its contract: a node of a step and its parent are nodes. Assumes nothing.
+-- `passes::turns::step` meets its contract: a node of a step and its parent are nodes. Assumes nothing.
 use Rattle.trees.specs.FallsLaws.{few}
 use Rattle.trees.specs.PassLaws.{stepped}
 use Rattle.trees.specs.Falls.{turn}
@@ -6,8 +6,8 @@ use denote.Ref.{now}
 use native.Mathlib.Omega.{arith}
 use mathlib.Core.Path.{refl}
 use borrow.Author.Needs.{needs}
-use Rattle.passes.proofs.row.step.Statement.{statement}
-use Rattle.passes.proofs.row.step.Tie as tie
+use Rattle.passes.proofs.turns.step.Statement.{statement}
+use Rattle.passes.proofs.turns.step.Tie as tie
 
 turn-requires : tie.Need-turn-requires
 turn-requires c κs = let st : tie.Start = search needs in (omega (arith, st .pre .0 .low), omega (arith, few _ _ (st .pre .0)), omega arith)

@@ -1,4 +1,4 @@
--- `passes::mating::ends` meets its contract: the table is filled up to s. Assumes nothing.
+-- `passes::mating::all_from_end` meets its contract: the table is filled up to s. Assumes nothing.
 use Rattle.trees.specs.Tables.{Tabled, tableWords, entry}
 use Rattle.trees.specs.TableLaws.{tabled-more, tabled-none}
 use Rattle.trees.specs.Mates.{fromEnd}
@@ -8,8 +8,8 @@ use native.Mathlib.Omega.{arith}
 use mathlib.Core.Path.{_≡_}
 use Prim.Native.Nat.{_≤_, _-_}
 use borrow.Author.Needs.{needs}
-use Rattle.passes.proofs.mating.ends.Statement.{statement}
-use Rattle.passes.proofs.mating.ends.Tie as tie
+use Rattle.passes.proofs.mating.all_from_end.Statement.{statement}
+use Rattle.passes.proofs.mating.all_from_end.Tie as tie
 
 abbrev Inv-loop : tie.InvT-loop
 Inv-loop n start t₀ s₀ t s = (s ≤ n) × (length t ≡ tableWords) × Tabled (fromEnd n (entry start)) 0 s t
@@ -56,8 +56,8 @@ returns c =
     let e : l .loop .s ≡ l .before .args .n = omega arith in
     rw e at (l .loop .inv .2)
 
-pub ends-spec : {M : Type 1} → statement M
-ends-spec =
+pub all-from-end-spec : {M : Type 1} → statement M
+all-from-end-spec =
     tie.close
     (tie.spec
     Inv-loop
