@@ -7,16 +7,16 @@ use native.Mathlib.Nat.{add-zero}
 use native.Mathlib.Numerals.{add-one}
 use native.Mathlib.Omega.{arith}
 use lib.Dec.{ltb, leb}
-use lib.ListN.{length, getD, take, drop, drop-of-length-le}
-use lib.Seq.{drop-cons, getD-drop}
+use lib.ListN.{length, getD, take, drop, drop-of-length-le, length-drop}
+use lib.Seq.{drop-cons, getD-drop, length-take-le}
 use borrow.Author.Tests.{leb-true, ne-eqb, not-true}
 use Rattle.trees.specs.Lists.{tabulate}
-use Rattle.trees.specs.Checks.{fewestSamples, mostSamples, outside}
+use Rattle.trees.specs.Checks.{fewestSamples, mostSamples, rowWords, outside}
 use Rattle.trees.specs.Reporting.{Run}
 use Rattle.trees.specs.BoolLaws.{and-l, and-r, not-yes}
 use Rattle.trees.specs.CheckLaws.{outside-not}
 use Rattle.runs.specs.Runs.{every, rising}
-use Rattle.runs.specs.Words.{header, samples, inForce, headerWords, slotStart, readRun, runAt, runs, mostRuns, capacity}
+use Rattle.runs.specs.Words.{header, samples, inForce, headerWords, rowOffset, slotWords, slotStart, readRun, runAt, runs, mostRuns, capacity}
 use Rattle.runs.specs.Formed.{sameWords, isStored, zeroFrom, headed, sized, wellFormed}
 use Rattle.runs.specs.WordLaws.{capacity-short, capacity-most, capacity-room}
 use Rattle.runs.specs.FormedLaws.{formed-to}
@@ -38,6 +38,10 @@ module _ (w : List ℕ) (i : ℕ) where
   zero-end h = rw (drop-of-length-le w h)
 
 -- ---- slot i of k, at word p
+
+-- the row in it is as long as it should be
+pub row-long : (n p : ℕ) (w : List ℕ) → p + slotWords n ≤ length w → length (readRun n (drop p w) .row) ≡ rowWords n
+row-long n p w h = length-take-le (rowWords n) (drop rowOffset (drop p w)) (omega (arith, length-drop rowOffset (drop p w), length-drop p w))
 
 pub slot-named : (n p : ℕ) (w : List ℕ) → readRun n (drop p w) .identifier ≡ getD w p 0
 slot-named n p w = getD-drop p w 0 0 ∙ ap (λ (i : ℕ). getD w i 0) (add-zero p)

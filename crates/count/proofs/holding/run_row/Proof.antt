@@ -10,7 +10,10 @@ slot-row-requires : tie.Need-slot-row-requires
 slot-row-requires c κs = search needs
 
 returns : tie.Need-returns
-returns c = search needs
+returns c =
+    let s : tie.After-slot-start = search needs in
+    let r : tie.After-slot-row = search needs in
+    rw (s .slot-start .ensures) at (r .slot-row .ensures)
 
 pub run-row-spec : {M : Type 1} → statement M
 run-row-spec = tie.close (tie.spec slot-start-requires slot-row-requires returns)

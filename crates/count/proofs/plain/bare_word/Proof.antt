@@ -30,6 +30,9 @@ returns-2 c =
 add-if3 : tie.Need-add-if3
 add-if3 c = search needs
 
+cast-result-3 : tie.Need-cast-result-3
+cast-result-3 c = search needs
+
 returns-3 : tie.Need-returns-3
 returns-3 c =
     let st : tie.Start = search needs in
@@ -44,4 +47,4 @@ returns-4 c =
 pub bare-word-spec : {M : Type 1} → statement M
 bare-word-spec =
     tie.close
-    (tie.spec add-result cast-result returns cast-result-2 returns-2 add-if3 returns-3 returns-4)
+    (tie.spec add-result cast-result returns cast-result-2 returns-2 add-if3 cast-result-3 returns-3 returns-4)

@@ -8,7 +8,7 @@ use Rattle.runs.specs.Words.{readRun, mostIdentifier}
 use mathlib.Core.Path.{_≡_, ap, _∙_}
 use native.Mathlib.Omega.{arith}
 use denote.Ref.{now}
-use Rattle.study.proofs.FormLaws.{slot-named}
+use Rattle.study.proofs.FormLaws.{row-long, slot-named}
 use borrow.Author.Needs.{needs}
 use Rattle.study.proofs.form.slot_follows.Statement.{statement}
 use Rattle.study.proofs.form.slot_follows.Tie as tie
@@ -30,7 +30,11 @@ slot-row-requires : tie.Need-slot-row-requires
 slot-row-requires c κs = search needs
 
 is-standard-requires : tie.Need-is-standard-requires
-is-standard-requires c κs = search needs
+is-standard-requires c κs =
+    let st : tie.Start = search needs in
+    let r : tie.After-slot-row = search needs in
+    let a = st .args in
+    (st .pre .0, st .pre .1, rw (r .slot-row .ensures) (row-long (a .n) (a .p) (now (a .words)) (st .pre .2)))
 
 returns-2 : tie.Need-returns-2
 returns-2 c =
