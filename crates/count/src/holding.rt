@@ -13,11 +13,11 @@ ghost use Rattle.runs.specs.Words.{slotStart, slotWords, runs, mostRuns};
 ghost use Rattle.count.specs.Studies.{Study, rowAt};
 ghost use Rattle.count.specs.Holders.{holdersAt, withMate, withRun, Under};
 use judge::nodes;
-use passes::NO_MATE;
+use mates::NO_MATE;
+use mates::mates;
+use mates::tables;
 use passes::TABLE;
 use passes::Table;
-use passes::mates;
-use passes::tables;
 use slots::slot_row;
 use slots::slot_start;
 

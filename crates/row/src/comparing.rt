@@ -33,7 +33,7 @@ fn mated(n: usize, m: usize, mate: &Table) -> usize
     let mut found: usize = 0;
     let mut v = n;
     while v < m {
-        if mate[v] != passes::NO_MATE {
+        if mate[v] != mates::NO_MATE {
             found += 1;
         }
         v += 1;
@@ -50,8 +50,8 @@ fn common(n: usize, a: &[u16], b: &[u16]) -> usize
     let mut low: Table = [0; TABLE];
     let mut start: Table = [0; TABLE];
     let mut mate: Table = [0; TABLE];
-    passes::tables(n, a, &mut size, &mut low, &mut start);
-    passes::mates(n, a, &size, &low, &start, b, &mut mate);
+    mates::tables(n, a, &mut size, &mut low, &mut start);
+    mates::mates(n, a, &size, &low, &start, b, &mut mate);
     mated(n, judge::nodes(a), &mate)
 }
 

@@ -72,7 +72,7 @@ impl Header {
     }
 
     // The eight words of the header.
-    pub fn words(self) -> [u16; 8]
+    pub fn words(self) -> [u16; Header::WORDS]
         ensures { λ r. ⌜ r ≡ header (self .samples) (self .in_force) ⌝ }
     {
         [
@@ -113,7 +113,7 @@ pub fn is_full(words: &[u16]) -> bool
 }
 
 // Whether the words begin with those of a header.
-pub fn starts_with(words: &[u16], head: [u16; 8]) -> bool
+pub fn starts_with(words: &[u16], head: [u16; Header::WORDS]) -> bool
     requires { ⌜ headerWords ≤ length (now words) ⌝ }
     ensures { λ r. ⌜ r ≡ sameWords (take headerWords (now (words .entry))) head ⌝ }
 {
@@ -128,7 +128,7 @@ pub fn starts_with(words: &[u16], head: [u16; 8]) -> bool
 }
 
 // The first words become those of a header.
-fn store(words: &mut [u16], head: [u16; 8])
+fn store(words: &mut [u16], head: [u16; Header::WORDS])
     requires { ⌜ headerWords ≤ length (now words) ⌝ }
     ensures { λ _. ⌜ now (words .exit) ≡ head ++ drop headerWords (now (words .entry)) ⌝ }
 {

@@ -18,6 +18,9 @@ const RUNS_AT: usize = 7;
 
 const HEAD_BYTES: usize = 9;
 
+// A 16-bit number.
+const WORD_BYTES: usize = 2;
+
 // "Input file of the program: at most 65,529 bytes."
 pub const MOST_BYTES: usize = 65529;
 
@@ -67,7 +70,7 @@ fn file_bytes(n: usize, k: usize) -> usize
     requires { ⌜ (n < 2 ^ 62) × (fileBytes n k < 2 ^ 63) ⌝ }
     ensures { λ r. ⌜ r ≡ fileBytes n k ⌝ }
 {
-    HEAD_BYTES + 2 * k * (2 * n + 1)
+    HEAD_BYTES + WORD_BYTES * k * (2 * n + 1)
 }
 
 // Whether the length is that of a file with the n and k that stand in it.
@@ -118,10 +121,10 @@ pub fn row_into(bytes: &[u8], n: usize, j: usize, row: &mut [u16])
     requires { ⌜ length (now row) ≡ rowWords n ⌝ }
     ensures { λ _. ⌜ now (row .exit) ≡ slotRow (now (bytes .entry)) n j ⌝ }
 {
-    let at = file_bytes(n, j) + 2;
+    let at = file_bytes(n, j) + WORD_BYTES;
     let mut i: usize = 0;
     while i < row.len() {
-        row[i] = word_at(bytes, at + 2 * i);
+        row[i] = word_at(bytes, at + WORD_BYTES * i);
         i += 1;
     }
 }

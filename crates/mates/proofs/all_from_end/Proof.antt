@@ -1,4 +1,4 @@
--- `passes::mating::all_from_end` meets its contract: the table is filled up to s. Assumes nothing.
+-- `mates::all_from_end` meets its contract: the table is filled up to s. Assumes nothing.
 use Rattle.trees.specs.Tables.{Tabled, tableWords, entry}
 use Rattle.trees.specs.TableLaws.{tabled-more, tabled-none}
 use Rattle.trees.specs.Mates.{fromEnd}
@@ -8,8 +8,8 @@ use native.Mathlib.Omega.{arith}
 use mathlib.Core.Path.{_≡_}
 use Prim.Native.Nat.{_≤_, _-_}
 use borrow.Author.Needs.{needs}
-use Rattle.passes.proofs.mating.all_from_end.Statement.{statement}
-use Rattle.passes.proofs.mating.all_from_end.Tie as tie
+use Rattle.mates.proofs.all_from_end.Statement.{statement}
+use Rattle.mates.proofs.all_from_end.Tie as tie
 
 abbrev Inv-loop : tie.InvT-loop
 Inv-loop n start t₀ s₀ t s = (s ≤ n) × (length t ≡ tableWords) × Tabled (fromEnd n (entry start)) 0 s t

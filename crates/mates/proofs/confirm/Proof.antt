@@ -1,10 +1,10 @@
--- `passes::mating::confirm` meets its contract. Assumes nothing.
+-- `mates::confirm` meets its contract. Assumes nothing.
 use borrow.Author.Tests.{lt-ltb, le-ltb}
 use native.Mathlib.Omega.{arith}
 use mathlib.Core.Path.{sym, _∙_}
 use borrow.Author.Needs.{needs}
-use Rattle.passes.proofs.mating.confirm.Statement.{statement}
-use Rattle.passes.proofs.mating.confirm.Tie as tie
+use Rattle.mates.proofs.confirm.Statement.{statement}
+use Rattle.mates.proofs.confirm.Tie as tie
 
 wide-requires : tie.Need-wide-requires
 wide-requires c κs = search needs

@@ -1,4 +1,4 @@
--- `passes::mating::advance` meets its contract: the nodes from x on decide. Assumes nothing.
+-- `mates::advance` meets its contract: the nodes from x on decide. Assumes nothing.
 use Rattle.trees.specs.Mates.{candidate}
 use Rattle.trees.specs.Tables.{rankIn}
 use Rattle.trees.specs.MateLaws.{candidate-end, candidate-hit, candidate-pass}
@@ -8,8 +8,8 @@ use native.Mathlib.Omega.{arith}
 use mathlib.Core.Path.{_≡_, refl, sym, _∙_}
 use Prim.Native.Nat.{_≤_, _-_}
 use borrow.Author.Needs.{needs}
-use Rattle.passes.proofs.mating.advance.Statement.{statement}
-use Rattle.passes.proofs.mating.advance.Tie as tie
+use Rattle.mates.proofs.advance.Statement.{statement}
+use Rattle.mates.proofs.advance.Tie as tie
 
 abbrev Inv-loop : tie.InvT-loop
 Inv-loop n m size low b k x₀ x = (x ≤ m) × (candidate (rankIn n size low) b m k ≡ candidate (rankIn n size low) x m k)

@@ -1,9 +1,9 @@
--- `passes::mating::candidates` meets its contract: all before a have theirs, and the walk is at b. Assumes nothing.
+-- `mates::candidates` meets its contract: all before a have theirs, and the walk is at b. Assumes nothing.
 use Rattle.trees.specs.Mates.{candidate}
 use mathlib.Core.Path.{ap, _≡_, _∙_}
 use Rattle.trees.specs.MateLaws.{candidate-reaches, candidate-same}
 use Prim.Native.Nat.{ℕ, _-_}
-use Rattle.passes.proofs.Loops.{Walking, walking-start, walking-step}
+use Rattle.mates.proofs.Walks.{Walking, walking-start, walking-step}
 use Rattle.trees.specs.Rows.{nodes}
 use Rattle.trees.specs.Tables.{rankAt}
 use Rattle.trees.specs.FallsLaws.{few, standard-falls}
@@ -11,8 +11,8 @@ use Rattle.trees.specs.LinearLaws.{ranked-most, rank-is}
 use denote.Ref.{now}
 use native.Mathlib.Omega.{arith}
 use borrow.Author.Needs.{needs}
-use Rattle.passes.proofs.mating.candidates.Statement.{statement}
-use Rattle.passes.proofs.mating.candidates.Tie as tie
+use Rattle.mates.proofs.candidates.Statement.{statement}
+use Rattle.mates.proofs.candidates.Tie as tie
 
 abbrev Inv-loop : tie.InvT-loop
 Inv-loop n reference size low row other lowest mate₀ m others a₀ b₀ mate a b = (m ≡ nodes reference) × (others ≡ nodes row) × Walking n reference row a b mate

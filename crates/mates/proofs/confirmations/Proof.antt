@@ -1,5 +1,5 @@
--- `passes::mating::confirmations` meets its contract: all before a have their mates, the others their candidates. Assumes nothing.
-use Rattle.passes.proofs.Loops.{Confirming, confirming-step}
+-- `mates::confirmations` meets its contract: all before a have their mates, the others their candidates. Assumes nothing.
+use Rattle.mates.proofs.Walks.{Confirming, confirming-step}
 use Rattle.trees.specs.Rows.{nodes}
 use Rattle.trees.specs.TableLaws.{tabled-none}
 use denote.Ref.{now}
@@ -7,8 +7,8 @@ use native.Mathlib.Omega.{arith}
 use mathlib.Core.Path.{_≡_}
 use Prim.Native.Nat.{_-_}
 use borrow.Author.Needs.{needs}
-use Rattle.passes.proofs.mating.confirmations.Statement.{statement}
-use Rattle.passes.proofs.mating.confirmations.Tie as tie
+use Rattle.mates.proofs.confirmations.Statement.{statement}
+use Rattle.mates.proofs.confirmations.Tie as tie
 
 abbrev Inv-loop : tie.InvT-loop
 Inv-loop n reference size start row other first last mate₀ m others a₀ mate a = (m ≡ nodes reference) × (others ≡ nodes row) × Confirming n reference row a mate

@@ -1,8 +1,8 @@
--- `passes::mating::fitting` meets its contract. Assumes nothing.
+-- `mates::fitting` meets its contract. Assumes nothing.
 use native.Mathlib.Omega.{arith}
 use borrow.Author.Needs.{needs}
-use Rattle.passes.proofs.mating.fitting.Statement.{statement}
-use Rattle.passes.proofs.mating.fitting.Tie as tie
+use Rattle.mates.proofs.fitting.Statement.{statement}
+use Rattle.mates.proofs.fitting.Tie as tie
 
 wide-requires : tie.Need-wide-requires
 wide-requires c κs = search needs

@@ -1,11 +1,11 @@
--- `passes::mating::spread` meets its contract. Assumes nothing.
+-- `mates::spread` meets its contract. Assumes nothing.
 use Rattle.trees.specs.Tables.{entry}
 use Rattle.trees.specs.Mates.{fromEnd}
 use Rattle.trees.specs.TableLaws.{end-keys, tabled-least}
 use denote.Ref.{now}
 use borrow.Author.Needs.{needs}
-use Rattle.passes.proofs.mating.spread.Statement.{statement}
-use Rattle.passes.proofs.mating.spread.Tie as tie
+use Rattle.mates.proofs.spread.Statement.{statement}
+use Rattle.mates.proofs.spread.Tie as tie
 
 least-requires : tie.Need-least-requires
 least-requires c κs = search needs

@@ -9,14 +9,14 @@ ghost use Rattle.trees.specs.Falls.{Falls};
 ghost use Rattle.trees.specs.Tables.{Tabled, tableWords, entry, Keys, Most, leastAt, rankIn};
 ghost use Rattle.trees.specs.Passes.{Ranked};
 ghost use Rattle.trees.specs.Mates.{mateOf, candidate, candidateOf, fitting, confirmed, fromEnd, Tables, Spread};
-use crate::pass::TABLE;
-use crate::pass::Table;
-use crate::pass::least;
-use crate::pass::rank;
-use crate::pass::ranks;
-use crate::pass::starts;
 use judge::nodes;
 use judge::wide;
+use passes::TABLE;
+use passes::Table;
+use passes::least;
+use passes::rank;
+use passes::ranks;
+use passes::starts;
 
 // 0 is a sample, and so no inner node.
 pub const NO_MATE: u16 = 0;

@@ -1,10 +1,10 @@
--- `passes::mating::tables` meets its contract. Assumes nothing.
+-- `mates::tables` meets its contract. Assumes nothing.
 use Rattle.trees.specs.FallsLaws.{standard-falls}
 use lib.ListN.{length-replicate}
 use Prim.Native.Nat.{ℕ}
 use borrow.Author.Needs.{needs}
-use Rattle.passes.proofs.mating.tables.Statement.{statement}
-use Rattle.passes.proofs.mating.tables.Tie as tie
+use Rattle.mates.proofs.tables.Statement.{statement}
+use Rattle.mates.proofs.tables.Tie as tie
 
 ranks-requires : tie.Need-ranks-requires
 ranks-requires c κs =

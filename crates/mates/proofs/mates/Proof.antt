@@ -1,12 +1,12 @@
--- `passes::mating::mates` meets its contract. Assumes nothing.
+-- `mates::mates` meets its contract. Assumes nothing.
 use Rattle.trees.specs.FallsLaws.{standard-falls}
 use Rattle.trees.specs.PlaceLaws.{place-keys}
 use denote.Ref.{now}
 use lib.ListN.{length-replicate}
 use Prim.Native.Nat.{ℕ}
 use borrow.Author.Needs.{needs}
-use Rattle.passes.proofs.mating.mates.Statement.{statement}
-use Rattle.passes.proofs.mating.mates.Tie as tie
+use Rattle.mates.proofs.mates.Statement.{statement}
+use Rattle.mates.proofs.mates.Tie as tie
 
 -- where the function starts
 abbrev start-of : tie.After-candidates → tie.Start
