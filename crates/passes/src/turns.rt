@@ -1,7 +1,6 @@
 // The order in which the passes visit a row's nodes.
 ghost use mathlib.Core.Path.{_≡_};
 ghost use Prim.Native.Nat.{_+_, _<_, _≤_};
-ghost use lib.ListN.{length};
 ghost use Rattle.trees.specs.Rows.{nodes, parent};
 ghost use Rattle.trees.specs.Falls.{Falls, turn};
 ghost use Rattle.trees.specs.Tables.{tableWords};

@@ -1,24 +1,21 @@
 -- `mates::all_from_end` meets its contract: the table is filled up to s. Assumes nothing.
-use Rattle.trees.specs.Tables.{Tabled, tableWords, entry}
-use Rattle.trees.specs.TableLaws.{tabled-more, tabled-none}
+use Rattle.trees.specs.Tables.{tableWords, entry}
 use Rattle.trees.specs.Mates.{fromEnd}
-use denote.Ref.{now}
-use lib.ListN.{length, length-set}
 use native.Mathlib.Omega.{arith}
-use mathlib.Core.Path.{_≡_}
-use Prim.Native.Nat.{_≤_, _-_}
+use Prim.Native.Nat.{_-_}
+use Rattle.passes.proofs.Filling.{Filling, filling-start, filling-more, filling-end}
 use borrow.Author.Needs.{needs}
 use Rattle.mates.proofs.all_from_end.Statement.{statement}
 use Rattle.mates.proofs.all_from_end.Tie as tie
 
 abbrev Inv-loop : tie.InvT-loop
-Inv-loop n start t₀ s₀ t s = (s ≤ n) × (length t ≡ tableWords) × Tabled (fromEnd n (entry start)) 0 s t
+Inv-loop n start t₀ s₀ t s = Filling (fromEnd n (entry start)) 0 n tableWords s t
 
 abbrev μ-loop : tie.MeasureT-loop
 μ-loop n start t₀ s₀ t s = n - s
 
 loop-holds : tie.Need-loop-holds Inv-loop μ-loop
-loop-holds c = let st : tie.Start Inv-loop μ-loop = search needs in (omega arith, st .pre .2, tabled-none _ 0 _)
+loop-holds c = let st : tie.Start Inv-loop μ-loop = search needs in filling-start (omega arith) (st .pre .2)
 
 mul-from-end : tie.Need-mul-from-end Inv-loop μ-loop
 mul-from-end c = omega arith
@@ -43,18 +40,13 @@ loop-less c = omega arith
 
 loop-again : tie.Need-loop-again Inv-loop μ-loop
 loop-again c =
-    let l : tie.At-loop Inv-loop μ-loop = search needs in (
-      omega arith,
-      simp length-set (l .loop .inv .1),
-      tabled-more (fromEnd (l .before .args .n) (entry (now (l .before .args .start)))) 0 (l .loop .s) _
-          (l .loop .t) (l .loop .inv .2) (omega arith) (c .from-end .ensures),
-    )
+    let l : tie.At-loop Inv-loop μ-loop = search needs in
+    filling-more (l .loop .inv) (omega arith) (omega arith) (c .from-end .ensures)
 
 returns : tie.Need-returns Inv-loop μ-loop
 returns c =
     let l : tie.At-loop Inv-loop μ-loop = search needs in
-    let e : l .loop .s ≡ l .before .args .n = omega arith in
-    rw e at (l .loop .inv .2)
+    filling-end (l .loop .inv) (omega arith)
 
 pub all-from-end-spec : {M : Type 1} → statement M
 all-from-end-spec =

@@ -1,26 +1,22 @@
 -- `merge::start` copies the parents of the samples. Assumes nothing.
 use Rattle.trees.specs.Checks.{mostSamples}
-use denote.Ref.{now}
 use native.Mathlib.Numerals.{add-one}
-use Rattle.trees.specs.TableLaws.{tabled-more, tabled-none}
-use Rattle.trees.specs.Tables.{Tabled}
 use Rattle.trees.specs.Rows.{parent}
-use lib.ListN.{length, length-set}
 use native.Mathlib.Omega.{arith}
-use mathlib.Core.Path.{_≡_}
-use Prim.Native.Nat.{_≤_, _-_}
+use Prim.Native.Nat.{_-_}
+use Rattle.passes.proofs.Filling.{Filling, filling-start, filling-more, filling-end}
 use borrow.Author.Needs.{needs}
 use Rattle.merge.proofs.start.Statement.{statement}
 use Rattle.merge.proofs.start.Tie as tie
 
 abbrev Inv-loop : tie.InvT-loop
-Inv-loop n row places₀ s₀ places s = Tabled (parent row) 0 s places × (length places ≡ mostSamples) × (s ≤ n)
+Inv-loop n row places₀ s₀ places s = Filling (parent row) 0 n mostSamples s places
 
 abbrev μ-loop : tie.MeasureT-loop
 μ-loop n row places₀ s₀ places s = n - s
 
 loop-holds : tie.Need-loop-holds Inv-loop μ-loop
-loop-holds c = (tabled-none _ 0 _, search needs, search needs)
+loop-holds c = let st : tie.Start Inv-loop μ-loop = search needs in filling-start (omega arith) (st .pre .1)
 
 add-places : tie.Need-add-places Inv-loop μ-loop
 add-places c = search needs
@@ -46,19 +42,14 @@ loop-less c = search needs
 loop-again : tie.Need-loop-again Inv-loop μ-loop
 unfolding parent
 loop-again c =
-    let a = c .before .before .before .args in
-    let l = c .before .before .loop in (
-      tabled-more (parent (now (a .row))) 0 (l .s) _ (l .places) (l .inv .0) (omega arith) (rw add-one),
-      simp length-set (l .inv .1),
-      search needs,
-    )
+    let st : tie.Start Inv-loop μ-loop = search needs in
+    let l : tie.At-loop Inv-loop μ-loop = search needs in
+    filling-more (l .loop .inv) (omega arith) (st .pre .0 .valid .most) (rw add-one)
 
 returns : tie.Need-returns Inv-loop μ-loop
 returns c =
-    let a = c .before .before .args in
-    let l = c .before .loop in
-    let e : l .s ≡ a .n = omega arith in
-    (rw e at (l .inv .0), l .inv .1)
+    let l : tie.At-loop Inv-loop μ-loop = search needs in
+    (filling-end (l .loop .inv) (omega arith), l .loop .inv .long)
 
 pub start-spec : {M : Type 1} → statement M
 start-spec =

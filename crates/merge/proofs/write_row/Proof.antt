@@ -1,18 +1,16 @@
 -- `merge::write_row` writes word by word. Assumes nothing.
 use Rattle.trees.specs.Climbing.{wordOf}
-use Rattle.trees.specs.TableLaws.{tabled-more, tabled-none}
-use Rattle.trees.specs.Tables.{Tabled}
 use Rattle.trees.specs.Checks.{rowWords}
-use lib.ListN.{length, length-set}
 use native.Mathlib.Omega.{arith}
-use mathlib.Core.Path.{_≡_, _∙_, sym}
-use Prim.Native.Nat.{_≤_, _-_}
+use mathlib.Core.Path.{_∙_, sym}
+use Prim.Native.Nat.{_-_}
+use Rattle.passes.proofs.Filling.{Filling, filling-start, filling-more, filling-end}
 use borrow.Author.Needs.{needs}
 use Rattle.merge.proofs.write_row.Statement.{statement}
 use Rattle.merge.proofs.write_row.Tie as tie
 
 abbrev Inv-loop : tie.InvT-loop
-Inv-loop n a up-a b up-b parents c out₀ w₀ out w = Tabled (wordOf n a up-a b up-b parents c) 0 w out × (length out ≡ rowWords n) × (w ≤ rowWords n)
+Inv-loop n a up-a b up-b parents c out₀ w₀ out w = Filling (wordOf n a up-a b up-b parents c) 0 (rowWords n) (rowWords n) w out
 
 abbrev μ-loop : tie.MeasureT-loop
 μ-loop n a up-a b up-b parents c out₀ w₀ out w = rowWords n - w
@@ -20,7 +18,7 @@ abbrev μ-loop : tie.MeasureT-loop
 loop-holds : tie.Need-loop-holds Inv-loop μ-loop
 loop-holds c =
     let st : tie.Start Inv-loop μ-loop = search needs in
-    (tabled-none _ 0 _, st .pre .3, omega arith)
+    filling-start (omega arith) (st .pre .3)
 
 word-requires : tie.Need-word-requires Inv-loop μ-loop
 word-requires c κs = search needs
@@ -39,24 +37,19 @@ loop-less c = search needs
 
 loop-again : tie.Need-loop-again Inv-loop μ-loop
 loop-again c =
-    let l : tie.At-loop Inv-loop μ-loop = search needs in (
-      tabled-more _ 0 (l .loop .w) _ (l .loop .out) (l .loop .inv .0) (omega arith) (c .word .ensures),
-      simp length-set (l .loop .inv .1),
-      omega (arith, l .loop .inv .1),
-    )
+    let l : tie.At-loop Inv-loop μ-loop = search needs in
+    filling-more (l .loop .inv) (omega (arith, l .loop .inv .long)) (omega arith) (c .word .ensures)
 
 same-length : tie.Need-same-length Inv-loop μ-loop
 same-length c =
     let st : tie.Start Inv-loop μ-loop = search needs in
     let l : tie.At-loop Inv-loop μ-loop = search needs in
-    l .loop .inv .1 ∙ sym (st .pre .3)
+    l .loop .inv .long ∙ sym (st .pre .3)
 
 returns : tie.Need-returns Inv-loop μ-loop
 returns c =
-    let st : tie.Start Inv-loop μ-loop = search needs in
     let l : tie.At-loop Inv-loop μ-loop = search needs in
-    let e : l .loop .w ≡ rowWords (st .args .n) = omega (arith, l .loop .inv .1) in
-    rw e at (l .loop .inv .0)
+    filling-end (l .loop .inv) (omega (arith, l .loop .inv .long))
 
 pub write-row-spec : {M : Type 1} → statement M
 write-row-spec =

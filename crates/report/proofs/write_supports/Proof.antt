@@ -1,24 +1,22 @@
 -- `report::write_supports` writes word by word. Assumes nothing.
-use Prim.Native.Nat.{_-_, _≤_}
-use mathlib.Core.Path.{_≡_, refl}
+use Prim.Native.Nat.{_-_}
+use mathlib.Core.Path.{refl}
 use native.Mathlib.Omega.{arith}
-use lib.ListN.{length, length-set}
-use denote.Ref.{now}
-use Rattle.trees.specs.Tables.{Tabled}
-use Rattle.trees.specs.TableLaws.{tabled-more, tabled-none}
+use lib.ListN.{length}
 use Rattle.report.specs.Supports.{supportWord}
+use Rattle.passes.proofs.Filling.{Filling, filling-start, filling-more, filling-end}
 use borrow.Author.Needs.{needs}
 use Rattle.report.proofs.write_supports.Statement.{statement}
 use Rattle.report.proofs.write_supports.Tie as tie
 
 abbrev Inv-loop : tie.InvT-loop
-Inv-loop n m k holders out₀ w₀ out w = Tabled (supportWord n m k holders) 0 w out × (length out ≡ length out₀) × (w ≤ length out₀)
+Inv-loop n m k holders out₀ w₀ out w = Filling (supportWord n m k holders) 0 (length out₀) (length out₀) w out
 
 abbrev μ-loop : tie.MeasureT-loop
 μ-loop n m k holders out₀ w₀ out w = length out₀ - w
 
 loop-holds : tie.Need-loop-holds Inv-loop μ-loop
-loop-holds c = (tabled-none _ 0 _, refl, omega arith)
+loop-holds c = filling-start (omega arith) refl
 
 support-word-requires : tie.Need-support-word-requires Inv-loop μ-loop
 support-word-requires c κs = search needs
@@ -37,23 +35,18 @@ loop-less c = search needs
 
 loop-again : tie.Need-loop-again Inv-loop μ-loop
 loop-again c =
-    let l : tie.At-loop Inv-loop μ-loop = search needs in (
-      tabled-more _ 0 (l .loop .w) _ (l .loop .out) (l .loop .inv .0) (omega arith) (c .support-word .ensures),
-      simp length-set (l .loop .inv .1),
-      omega (arith, l .loop .inv .1),
-    )
+    let l : tie.At-loop Inv-loop μ-loop = search needs in
+    filling-more (l .loop .inv) (omega (arith, l .loop .inv .long)) (omega arith) (c .support-word .ensures)
 
 same-length : tie.Need-same-length Inv-loop μ-loop
 same-length c =
     let l : tie.At-loop Inv-loop μ-loop = search needs in
-    l .loop .inv .1
+    l .loop .inv .long
 
 returns : tie.Need-returns Inv-loop μ-loop
 returns c =
-    let st : tie.Start Inv-loop μ-loop = search needs in
     let l : tie.At-loop Inv-loop μ-loop = search needs in
-    let e : l .loop .w ≡ length (now (st .args .out)) = omega (arith, l .loop .inv .1) in
-    rw e at (l .loop .inv .0)
+    filling-end (l .loop .inv) (omega (arith, l .loop .inv .long))
 
 pub write-supports-spec : {M : Type 1} → statement M
 write-supports-spec =

@@ -1,19 +1,18 @@
 -- `count::plain::bare` writes word by word. Assumes nothing.
-use Prim.Native.Nat.{ℕ, _-_, _≤_}
+use Prim.Native.Nat.{ℕ, _-_}
 use mathlib.Core.Path.{_≡_, sym, _∙_}
 use native.Mathlib.Omega.{arith}
-use lib.ListN.{length, getD, length-set}
+use lib.ListN.{length, getD}
 use Rattle.trees.specs.Checks.{rowWords}
-use Rattle.trees.specs.Tables.{Tabled}
-use Rattle.trees.specs.TableLaws.{tabled-more, tabled-none}
 use Rattle.count.specs.TakingLaws.{tabled-words, bare-length}
 use Rattle.count.specs.Plain.{bareRow}
+use Rattle.passes.proofs.Filling.{Filling, filling-start, filling-more, filling-end}
 use borrow.Author.Needs.{needs}
 use Rattle.count.proofs.plain.bare.Statement.{statement}
 use Rattle.count.proofs.plain.bare.Tie as tie
 
 abbrev Inv-loop : tie.InvT-loop
-Inv-loop n out₀ w₀ out w = Tabled (λ u. getD (bareRow n) u 0) 0 w out × (length out ≡ rowWords n) × (w ≤ rowWords n)
+Inv-loop n out₀ w₀ out w = Filling (λ u. getD (bareRow n) u 0) 0 (rowWords n) (rowWords n) w out
 
 abbrev μ-loop : tie.MeasureT-loop
 μ-loop n out₀ w₀ out w = rowWords n - w
@@ -21,7 +20,7 @@ abbrev μ-loop : tie.MeasureT-loop
 loop-holds : tie.Need-loop-holds Inv-loop μ-loop
 loop-holds c =
     let st : tie.Start Inv-loop μ-loop = search needs in
-    (tabled-none _ 0 _, st .pre .2, omega arith)
+    filling-start (omega arith) (st .pre .2)
 
 bare-word-requires : tie.Need-bare-word-requires Inv-loop μ-loop
 bare-word-requires c κs = search needs
@@ -40,17 +39,14 @@ loop-less c = search needs
 
 loop-again : tie.Need-loop-again Inv-loop μ-loop
 loop-again c =
-    let l : tie.At-loop Inv-loop μ-loop = search needs in (
-      tabled-more _ 0 (l .loop .w) _ (l .loop .out) (l .loop .inv .0) (omega arith) (c .bare-word .ensures),
-      simp length-set (l .loop .inv .1),
-      omega (arith, l .loop .inv .1),
-    )
+    let l : tie.At-loop Inv-loop μ-loop = search needs in
+    filling-more (l .loop .inv) (omega (arith, l .loop .inv .long)) (omega arith) (c .bare-word .ensures)
 
 same-length : tie.Need-same-length Inv-loop μ-loop
 same-length c =
     let st : tie.Start Inv-loop μ-loop = search needs in
     let l : tie.At-loop Inv-loop μ-loop = search needs in
-    l .loop .inv .1 ∙ sym (st .pre .2)
+    l .loop .inv .long ∙ sym (st .pre .2)
 
 returns : tie.Need-returns Inv-loop μ-loop
 returns c =
@@ -58,8 +54,7 @@ returns c =
     let l : tie.At-loop Inv-loop μ-loop = search needs in
     let n : ℕ = st .args .n in
     let b : length (bareRow n) ≡ rowWords n = bare-length n (st .pre .0) in
-    let e : l .loop .w ≡ length (bareRow n) = omega (arith, l .loop .inv .1) in
-    tabled-words (bareRow n) (l .loop .out) (l .loop .inv .1 ∙ sym b) (rw e at (l .loop .inv .0))
+    tabled-words (bareRow n) (l .loop .out) (l .loop .inv .long ∙ sym b) (rw b (filling-end (l .loop .inv) (omega (arith, l .loop .inv .long))))
 
 pub bare-spec : {M : Type 1} → statement M
 bare-spec =

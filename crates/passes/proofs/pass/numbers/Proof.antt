@@ -1,22 +1,21 @@
 -- `passes::pass::numbers` meets its contract: the table is filled up to s. Assumes nothing.
-use Rattle.trees.specs.Tables.{Tabled, tableWords, own}
-use Rattle.trees.specs.TableLaws.{tabled-more, tabled-none}
-use lib.ListN.{length, length-set}
+use Rattle.trees.specs.Tables.{tableWords, own}
 use native.Mathlib.Omega.{arith}
-use mathlib.Core.Path.{_≡_, refl}
-use Prim.Native.Nat.{_≤_, _-_}
+use mathlib.Core.Path.{refl}
+use Prim.Native.Nat.{_-_}
+use Rattle.passes.proofs.Filling.{Filling, filling-start, filling-more, filling-end}
 use borrow.Author.Needs.{needs}
 use Rattle.passes.proofs.pass.numbers.Statement.{statement}
 use Rattle.passes.proofs.pass.numbers.Tie as tie
 
 abbrev Inv-loop : tie.InvT-loop
-Inv-loop n t₀ s₀ t s = (s ≤ n) × (length t ≡ tableWords) × Tabled own 0 s t
+Inv-loop n t₀ s₀ t s = Filling own 0 n tableWords s t
 
 abbrev μ-loop : tie.MeasureT-loop
 μ-loop n t₀ s₀ t s = n - s
 
 loop-holds : tie.Need-loop-holds Inv-loop μ-loop
-loop-holds c = let st : tie.Start Inv-loop μ-loop = search needs in (omega arith, st .pre .1, tabled-none own 0 _)
+loop-holds c = let st : tie.Start Inv-loop μ-loop = search needs in filling-start (omega arith) (st .pre .1)
 
 cast-t : tie.Need-cast-t Inv-loop μ-loop
 cast-t c = omega arith
@@ -36,13 +35,12 @@ loop-less c = omega arith
 loop-again : tie.Need-loop-again Inv-loop μ-loop
 loop-again c =
     let l : tie.At-loop Inv-loop μ-loop = search needs in
-    (omega arith, simp length-set (l .loop .inv .1), tabled-more own 0 (l .loop .s) _ (l .loop .t) (l .loop .inv .2) (omega arith) refl)
+    filling-more (l .loop .inv) (omega arith) (omega arith) refl
 
 returns : tie.Need-returns Inv-loop μ-loop
 returns c =
     let l : tie.At-loop Inv-loop μ-loop = search needs in
-    let e : l .loop .s ≡ l .before .args .n = omega arith in
-    rw e at (l .loop .inv .2)
+    filling-end (l .loop .inv) (omega arith)
 
 pub numbers-spec : {M : Type 1} → statement M
 numbers-spec =

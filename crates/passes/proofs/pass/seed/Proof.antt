@@ -1,22 +1,20 @@
 -- `passes::pass::seed` meets its contract: the table is filled up to v. Assumes nothing.
-use Rattle.trees.specs.Tables.{Tabled, tableWords, entry, seeded}
-use Rattle.trees.specs.TableLaws.{tabled-more, tabled-none}
-use lib.ListN.{length, length-set}
+use Rattle.trees.specs.Tables.{tableWords, entry, seeded}
 use native.Mathlib.Omega.{arith}
-use mathlib.Core.Path.{_≡_}
-use Prim.Native.Nat.{_≤_, _-_}
+use Prim.Native.Nat.{_-_}
+use Rattle.passes.proofs.Filling.{Filling, filling-start, filling-more, filling-end}
 use borrow.Author.Needs.{needs}
 use Rattle.passes.proofs.pass.seed.Statement.{statement}
 use Rattle.passes.proofs.pass.seed.Tie as tie
 
 abbrev Inv-loop : tie.InvT-loop
-Inv-loop n m key e t₀ v₀ t v = (v ≤ m) × (length t ≡ tableWords) × Tabled (seeded n (entry key) e) 0 v t
+Inv-loop n m key e t₀ v₀ t v = Filling (seeded n (entry key) e) 0 m tableWords v t
 
 abbrev μ-loop : tie.MeasureT-loop
 μ-loop n m key e t₀ v₀ t v = m - v
 
 loop-holds : tie.Need-loop-holds Inv-loop μ-loop
-loop-holds c = let st : tie.Start Inv-loop μ-loop = search needs in (omega arith, st .pre .2, tabled-none _ 0 _)
+loop-holds c = let st : tie.Start Inv-loop μ-loop = search needs in filling-start (omega arith) (st .pre .2)
 
 initial-requires : tie.Need-initial-requires Inv-loop μ-loop
 initial-requires c κs = search needs
@@ -36,13 +34,12 @@ loop-less c = omega arith
 loop-again : tie.Need-loop-again Inv-loop μ-loop
 loop-again c =
     let l : tie.At-loop Inv-loop μ-loop = search needs in
-    (omega arith, simp length-set (l .loop .inv .1), tabled-more _ 0 (l .loop .v) _ (l .loop .t) (l .loop .inv .2) (omega arith) (c .initial .ensures))
+    filling-more (l .loop .inv) (omega arith) (omega arith) (c .initial .ensures)
 
 returns : tie.Need-returns Inv-loop μ-loop
 returns c =
     let l : tie.At-loop Inv-loop μ-loop = search needs in
-    let e : l .loop .v ≡ l .before .args .m = omega arith in
-    (rw e at (l .loop .inv .2), l .loop .inv .1)
+    (filling-end (l .loop .inv) (omega arith), l .loop .inv .long)
 
 pub seed-spec : {M : Type 1} → statement M
 seed-spec =
