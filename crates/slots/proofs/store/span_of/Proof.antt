@@ -2,7 +2,7 @@
 use mathlib.Core.Path.{refl}
 use native.Mathlib.Omega.{arith}
 use denote.Ref.{now}
-use Rattle.slots.specs.SlotLaws.{formed-long, formed-few}
+use Rattle.runs.specs.SlotLaws.{formed-long, formed-few}
 use borrow.Author.Needs.{needs}
 use Rattle.slots.proofs.store.span_of.Statement.{statement}
 use Rattle.slots.proofs.store.span_of.Tie as tie
