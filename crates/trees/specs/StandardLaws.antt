@@ -108,7 +108,8 @@ module _ (n : ℕ) (r : List ℕ) (std : Standard n r) where
       (λ l k. (λ q. omega arith, λ m. omega (arith, no-leaf-above n r up s (n + l) h (omega (arith, length-inner n r)) m))))
 
   -- the parent of an inner node is the mark, of the first alone, or an inner node of a smaller number
-  pub parent-below : (v : ℕ) → n ≤ v → v < nodes r → ((v ≡ n) × (parent r v ≡ rootMark)) ⊎ ((childOf r rootMark v ≡ false) × (n ≤ parent r v) × (parent r v < v))
+  pub parent-below : (v : ℕ) → n ≤ v → v < nodes r
+      → ((v ≡ n) × (parent r v ≡ rootMark)) ⊎ ((childOf r rootMark v ≡ false) × (n ≤ parent r v) × (parent r v < v))
   parent-below v a h = go (decide (childOf r rootMark v))
     where
       first : childOf r rootMark v ≡ true → (eqb v n ≡ true) ⊎ (eqb v n ≡ false) → v ≡ n
