@@ -1,0 +1,97 @@
+-- A listed tree is the report of the study that was opened and took every slot of the file, in its order. Assumes nothing.
+use Prim.Native.Nat.{ℕ, suc}
+use mathlib.Core.Path.{_≡_, refl, _∙_}
+use mathlib.Core.List.{List, [], _∷_}
+use mathlib.Core.Bool.{true}
+use native.Mathlib.Omega.{arith}
+use Rattle.trees.specs.Lists.{Place, nowhere, at, tabulate, zeros}
+use Rattle.trees.specs.Checks.{Verdict, accepted, refused, counted, Check, orElse, _⊳_, rowWords}
+use Rattle.trees.specs.Valid.{isAccepted}
+use Rattle.trees.specs.Reporting.{majority}
+use Rattle.runs.specs.Runs.{every}
+use Rattle.runs.specs.Calls.{opened, added, withdrawn, openChecks, addChecks, withdrawChecks}
+use Rattle.runs.specs.Histories.{Call, add, withdraw, called, answers, after, studyAfter}
+use Rattle.runs.specs.Reports.{reported, reportChecks}
+use Rattle.text.specs.Files.{fileSamples, fileRuns, fileOf}
+use Rattle.text.specs.FileLaws.{good-file}
+use Rattle.text.specs.declared.file.File.{File}
+use Rattle.text.specs.declared.file.File.the-variants.{Bad, Good}
+use Rattle.listing.specs.Listing.{Listed, refusal, tree, studyWords, unless, firstRefused, slotCall, reports, addsAndReports, listedFile, listedOf, listed}
+
+-- ---- only calls that are accepted lead to a tree
+
+-- a chain of checks that ends in acceptance counts nothing
+Plain : Verdict → Type 0
+Plain accepted = Unit {0}
+Plain (refused k p) = Unit {0}
+Plain (counted a b c) = ⊥
+
+chain-plain : (cs : List Check) → Plain (cs ⊳ accepted)
+unfolding _⊳_ Plain
+chain-plain [] = tt
+chain-plain (c ∷ cs) = go (c .fault) (chain-plain cs)
+  where
+    go : (f : Place) → Plain (cs ⊳ accepted) → Plain (orElse (c .number) f (cs ⊳ accepted))
+    go nowhere p = p
+    go (at i) p = tt
+
+called-plain : (w : List ℕ) (c : Call) → Plain (called w c .verdict)
+unfolding added withdrawn
+called-plain w (add i row) = chain-plain (addChecks w i row)
+called-plain w (withdraw i) = chain-plain (withdrawChecks w i)
+
+module _ (n k : ℕ) (row support : List ℕ) where
+  unless-tree : (v : Verdict) (slot : ℕ) (next : Listed) → Plain v → unless v slot next ≡ tree n k row support
+      → (v ≡ accepted) × (next ≡ tree n k row support)
+  unfolding Plain
+  unless-tree accepted slot next p e = (refl, e)
+  unless-tree (refused a b) slot next p e = let z : _≡_ {A = ℕ} 0 1 = cc in absurd (omega arith)
+  unless-tree (counted a b c) slot next p e = absurd p
+
+  first-tree : (w : List ℕ) (calls : List Call) (slot : ℕ) (next : Listed) → firstRefused (answers w calls) slot next ≡ tree n k row support
+      → (every isAccepted (answers w calls) ≡ true) × (next ≡ tree n k row support)
+  unfolding firstRefused answers every
+  first-tree w [] slot next e = (refl, e)
+  first-tree w (c ∷ calls) slot next e =
+      let t = unless-tree (called w c .verdict) slot (firstRefused (answers (called w c .words) calls) (suc slot) next) (called-plain w c) e in
+      let s = first-tree (called w c .words) calls (suc slot) next (t .1) in
+      (rw (t .0) (s .0), s .1)
+
+-- ---- a listed tree
+
+-- the file's slots as adds, and the study that was given them
+abbrev pub fileCalls : List ℕ → ℕ → ℕ → List Call
+fileCalls bytes n k = tabulate k (slotCall bytes n) 0
+
+abbrev pub fileStudy : List ℕ → ℕ → ℕ → List ℕ
+fileStudy bytes n k = studyAfter n (zeros studyWords) (fileCalls bytes n k)
+
+-- the study is opened, takes each slot and is reported; the rows are the report's
+pub record Tree (bytes : List ℕ) (n k : ℕ) (row support : List ℕ) : Type 0 where
+  pub samples : n ≡ fileSamples bytes
+  pub count : k ≡ fileRuns bytes
+  pub opens : opened n (zeros studyWords) .verdict ≡ accepted
+  pub takes : every isAccepted (answers (opened n (zeros studyWords) .words) (fileCalls bytes n k)) ≡ true
+  pub report : reported majority (fileStudy bytes n k) (zeros (rowWords n)) (zeros (rowWords n)) .verdict ≡ accepted
+  pub agreed : row ≡ reported majority (fileStudy bytes n k) (zeros (rowWords n)) (zeros (rowWords n)) .agreedRow
+  pub supports : support ≡ reported majority (fileStudy bytes n k) (zeros (rowWords n)) (zeros (rowWords n)) .supportRow
+
+pub listed-tree : (bytes : List ℕ) (n k : ℕ) (row support : List ℕ) → listed bytes ≡ tree n k row support → Tree bytes n k row support
+unfolding listed listedFile addsAndReports reports opened reported
+listed-tree bytes n k row support e = go (fileOf bytes) refl e
+  where
+    go : (f : File) → fileOf bytes ≡ f → listedOf bytes f ≡ tree n k row support → Tree bytes n k row support
+    go Bad p q = let z : _≡_ {A = ℕ} 0 1 = cc in absurd (omega arith)
+    go (Good m j) p q =
+        let g = good-file bytes m j p in
+        let o = opened m (zeros studyWords) in
+        let a = unless-tree n k row support (o .verdict) 0 _ (chain-plain (openChecks m (zeros studyWords))) q in
+        let b = first-tree n k row support (o .words) (fileCalls bytes m j) 0 _ (a .1) in
+        let w = fileStudy bytes m j in
+        let x = zeros (rowWords m) in
+        let d = unless-tree n k row support (reported majority w x x .verdict) 0 _ (chain-plain (reportChecks w x x)) (b .1) in
+        let en : m ≡ n = cc in
+        let ek : j ≡ k = cc in
+        let er : row ≡ reported majority w x x .agreedRow = cc in
+        let es : support ≡ reported majority w x x .supportRow = cc in
+        rw (← en, ← ek) record { samples = g .0; count = g .1; opens = a .0; takes = b .0; report = d .0; agreed = er; supports = es }
