@@ -1,6 +1,6 @@
-"""Names in docs/PROMISES.md and docs/DECISIONS.md that the repository does not have: each fails.
+"""Each name in backquotes in docs/PROMISES.md is one of the repository's: a definition, law, function, crate, file or must-fail edit; and each edit is named there.
 
-A name in backquotes is one of a definition, law, function or test; `crate/edit` is a must-fail edit.
+python3 tests/names.py    says what is not so; the status is then 1
 """
 
 import re
@@ -8,32 +8,39 @@ import sys
 from pathlib import Path
 
 TOP = Path(__file__).resolve().parent.parent
-PAGES = ["docs/PROMISES.md", "docs/DECISIONS.md"]
-TEXT = "\n".join(path.read_text() for path in sorted(TOP.glob("crates/**/*")) if path.suffix in {".rt", ".antt"})
-WORDS = set(re.findall(r"[^\s(){}.,;:⌜⌝λ·]+", TEXT)) | {path.name for path in (TOP / "crates").iterdir()}
-EDITS = {f"{path.parent.parent.name}/{path.stem}" for path in TOP.glob("crates/*/must-fail/*.edit")}
+PAGE = "docs/PROMISES.md"
+WORD = r"[^\s(){}\[\].,;:⌜⌝λ·]+"  # as names are parted in the crates
+ROOTS = [TOP, TOP / "crates", TOP / "tests" / "second", TOP / "crates" / "replay"]
 
 
-def is_known(name: str) -> bool:
-    """Whether a name in backquotes is there: as an edit, as a path, or each of its words in the crates."""
-    if name in EDITS or (TOP / name).exists() or (TOP / "crates" / name).exists() or (TOP / "crates" / f"{name}.antt").exists():
-        return True
-    return all(word in WORDS for word in re.findall(r"[^\s(){}.,;:⌜⌝λ·]+", name))
+def known_words() -> set[str]:
+    """Every word of the crates' sources, and the crates' names."""
+    sources = [path.read_text() for path in (TOP / "crates").glob("**/*") if path.suffix in {".rt", ".antt"}]
+    return set(re.findall(WORD, "\n".join(sources))) | {path.name for path in (TOP / "crates").iterdir()}
+
+
+def edits() -> set[str]:
+    """The must-fail edits, as `crate/edit`."""
+    return {f"{path.parent.parent.name}/{path.stem}" for path in TOP.glob("crates/*/must-fail/*.edit")}
+
+
+def is_file(name: str) -> bool:
+    """Whether a name, or a command's last word that is one, is a file or folder, `.antt` left out or not."""
+    paths = [word for word in name.split() if "/" in word or "." in word] or [name]
+    return all(any((root / (path + end)).exists() for root in ROOTS for end in ("", ".antt")) for path in paths)
 
 
 def main() -> int:
-    """Says each name that is not known."""
-    strange = 0
-    for page in PAGES:
-        for number, line in enumerate((TOP / page).read_text().split("\n"), 1):
-            for name in re.findall(r"`([^`]+)`", line):
-                if not is_known(name):
-                    strange += 1
-                    print(f"{page}:{number}: {name}")
-    edits = set(re.findall(r"`([a-z]+/[a-z_0-9]+)`", (TOP / PAGES[0]).read_text()))
-    for edit in sorted(EDITS - edits):
-        print(f"{PAGES[0]}: no line names the edit {edit}")
-    return 1 if strange else 0
+    """Compares the page with the repository."""
+    words, named = known_words(), edits()
+    found = [name for name in re.findall(r"`([^`]+)`", (TOP / PAGE).read_text())]
+    strange = [name for name in found if name not in named and not is_file(name) and not set(re.findall(WORD, name)) <= words]
+    for name in strange:
+        print(f"{PAGE}: the repository has no {name}")
+    unnamed = sorted(named - set(found))
+    for edit in unnamed:
+        print(f"{PAGE}: no line names the edit {edit}")
+    return 1 if strange or unnamed else 0
 
 
 if __name__ == "__main__":
