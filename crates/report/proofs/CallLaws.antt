@@ -5,15 +5,13 @@ use mathlib.Core.List.{List, [], _∷_}
 use native.Mathlib.Omega.{arith}
 use lib.Dec.{eqb}
 use lib.ListN.{length}
-use borrow.Author.Tests.{eqb-false, not-false}
+use borrow.Author.Tests.{eqb-false}
 use Rattle.trees.specs.Checks.{Verdict, accepted, refused, line, _⊳_, asked, rowWords}
-use Rattle.trees.specs.ChainLaws.{chain-stop, chain-go, chain-passed, asked-passes, line-passes}
+use Rattle.trees.specs.ChainLaws.{chain-stop, chain-go, chain-passed, line-passes}
 use Rattle.trees.specs.RowCalls.{check3Both}
 use Rattle.trees.specs.RowCallLaws.{both-lengths}
 use Rattle.trees.specs.Reporting.{majority, agreed, supports}
 use Rattle.runs.specs.Words.{runs}
-use Rattle.runs.specs.Formed.{wellFormed, Formed}
-use Rattle.runs.specs.FormedLaws.{formed-to}
 use Rattle.runs.specs.Calls.{check2}
 use Rattle.runs.specs.Reports.{reportFormedChecks, reportChecks, reported}
 use Rattle.runs.specs.ReportLaws.{reported-refused, reported-rows}
@@ -74,7 +72,3 @@ module _ (w : List ℕ) (r : Answer) (e : verdict r ≡ asked (check2 w)) where
       let x : reported majority w a s .verdict ≡ refused i p = chain-stop (check2 w) (reportFormedChecks w a s) accepted i p (sym e ∙ ap verdict q) in
       let t = reported-refused majority w a s i p x in
       (ap verdict q ∙ sym x, (sym (t .0), sym (t .1)))
-
-  -- a study that is
-  pub report-formed : r ≡ Accepted → Formed w
-  report-formed q = formed-to w (not-false (wellFormed w) (line-passes 2 _ (asked-passes (check2 w) (sym e ∙ ap verdict q))))

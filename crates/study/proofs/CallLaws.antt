@@ -4,15 +4,14 @@ use mathlib.Core.Path.{_≡_, sym, ap, _∙_}
 use mathlib.Core.List.{List, [], _∷_, _++_}
 use mathlib.Core.Bool.{true, false, not}
 use native.Mathlib.Omega.{arith}
-use lib.Dec.{eqb}
 use lib.ListN.{length}
-use borrow.Author.Tests.{eqb-true, not-false}
+use borrow.Author.Tests.{not-false}
 use Rattle.trees.specs.Lists.{nowhere}
-use Rattle.trees.specs.Checks.{Verdict, accepted, refused, Check, _⊳_, asked, fewestSamples, mostSamples, rowWords, outside}
+use Rattle.trees.specs.Checks.{Verdict, accepted, refused, Check, _⊳_, asked, fewestSamples, mostSamples, outside}
 use Rattle.trees.specs.Checks.{check1, check3, rowChecks, judgeChecks, judged}
 use Rattle.trees.specs.Valid.{Valid}
 use Rattle.trees.specs.ChainLaws.{chain-append, passed-chain, chain-passed, chain-given, given-chain, asked-passes, line-passes}
-use Rattle.trees.specs.CheckLaws.{outside-not, not-outside}
+use Rattle.trees.specs.CheckLaws.{not-outside}
 use Rattle.trees.specs.ValidLaws.{judged-valid}
 use Rattle.runs.specs.Runs.{isSome, present, deleteRun}
 use Rattle.runs.specs.Words.{samples, headerWords, runs, encode}
@@ -68,14 +67,6 @@ pub leaves : (o : Outcome) (v : Verdict) (ws : List ℕ) → o ≡ record { verd
 leaves o v ws e = (sym (ap (λ (x : Outcome). x .verdict) e), sym (ap (λ (x : Outcome). x .words) e))
 
 -- ---- what an acceptance tells
-
-pub row-sized : (n : ℕ) (row : List ℕ) (r : Answer) → verdict r ≡ asked (check3 n row) → r ≡ Accepted → length row ≡ rowWords n
-row-sized n row r e q = eqb-true (length row) (rowWords n)
-    (not-false _ (line-passes 3 (not (eqb (length row) (rowWords n))) (asked-passes (check3 n row) (sym e ∙ ap verdict q))))
-
-pub samples-few : (n : ℕ) (r : Answer) → verdict r ≡ asked (check1 n) → r ≡ Accepted → n ≤ mostSamples
-samples-few n r e q = outside-not fewestSamples mostSamples n
-    (line-passes 1 (outside fewestSamples mostSamples n) (asked-passes (check1 n) (sym e ∙ ap verdict q))) .1
 
 pub study-formed : (w : List ℕ) (r : Answer) → verdict r ≡ asked (check2 w) → r ≡ Accepted → Formed w
 study-formed w r e q = formed-to w (not-false _ (line-passes 2 (not (wellFormed w)) (asked-passes (check2 w) (sym e ∙ ap verdict q))))

@@ -1,6 +1,7 @@
 -- `report::report` meets its contract. Assumes nothing.
 use denote.Ref.{now}
-use Rattle.report.proofs.CallLaws.{report-unformed, report-formed}
+use Rattle.study.proofs.CallLaws.{study-formed}
+use Rattle.report.proofs.CallLaws.{report-unformed}
 use borrow.Author.Needs.{needs}
 use Rattle.report.proofs.report.Statement.{statement}
 use Rattle.report.proofs.report.Tie as tie
@@ -22,11 +23,7 @@ returns c =
     report-unformed (now (a .words)) (g .study-given .result) (g .study-given .ensures) _ _ (c .enum-told2 .given .1) (now (a .agreed)) (now (a .support))
 
 report-formed-requires : tie.Need-report-formed-requires
-report-formed-requires c κs =
-    let st : tie.Start = search needs in
-    let g : tie.After-study-given = search needs in
-    let t : tie.After-enum-told = search needs in
-    report-formed (now (st .args .words)) (g .study-given .result) (g .study-given .ensures) (t .enum-told .given .1)
+report-formed-requires c κs = search study-formed
 
 same-length : tie.Need-same-length
 same-length c = search needs

@@ -5,7 +5,9 @@ use native.Mathlib.Omega.{arith}
 use denote.Ref.{now}
 use mathlib.Core.List.{List}
 use lib.ListN.{set}
-use Rattle.runs.specs.Words.{samples, inForce, inForceAt}
+use Rattle.runs.specs.Words.{samples, inForce, inForceAt, slotStart, slot}
+use Rattle.runs.specs.Calls.{stores}
+use Rattle.runs.specs.Moves.{putAt}
 use Rattle.runs.specs.SlotLaws.{formed-long, formed-fits, formed-few, next-fits, slot-order}
 use borrow.Author.Needs.{needs}
 use Rattle.slots.proofs.store.put_run.Statement.{statement}
@@ -26,8 +28,12 @@ put-at-requires c κs =
     let w = now (st .args .words) in
     let n : tie.After-samples = search needs in
     let s : tie.After-span-of = search needs in
-    rw (s .span-of .ensures .0, s .span-of .ensures .1, n .samples .ensures)
-    (slot-order (samples w) (st .args .at) (inForce w) (st .pre .1), next-fits w (st .pre .0) (st .pre .2) .1, st .pre .3)
+    let order = slot-order (samples w) (st .args .at) (inForce w) (st .pre .1) in
+    let room = next-fits w (st .pre .0) (st .pre .2) in (
+      omega (arith, s .span-of .ensures, order),
+      rw (s .span-of .ensures .1, n .samples .ensures) (room .1),
+      rw (n .samples .ensures) (st .pre .3),
+    )
 
 add-words : tie.Need-add-words
 add-words c = search needs
@@ -59,7 +65,9 @@ returns c =
     let k : tie.After-in-force = search needs in
     let s : tie.After-span-of = search needs in
     let p : tie.After-put-at = search needs in
-    let e = rw (s .span-of .ensures .0, s .span-of .ensures .1, n .samples .ensures) at (p .put-at .ensures) in
+    let new = slot (stores (samples w) (st .args .id) (now (st .args .row))) in
+    let e : p .put-at .last .0 ≡ putAt w (slotStart (samples w) (st .args .at)) (slotStart (samples w) (inForce w)) new = rw
+    (← s .span-of .ensures .0, ← s .span-of .ensures .1, ← n .samples .ensures) (p .put-at .ensures) in
     let more : k .in-force .result + 1 ≡ suc (inForce w) = omega (arith, k .in-force .ensures) in
     ap (λ (j : ℕ). set (p .put-at .last .0) inForceAt j) more ∙ ap (λ (ws : List ℕ). set ws inForceAt (suc (inForce w))) e
 

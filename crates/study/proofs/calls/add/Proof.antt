@@ -28,13 +28,7 @@ returns c =
     (add-unformed w (g .study-given .result) (g .study-given .ensures) _ _ (c .enum-told2 .given .1) (a .id) (now (a .row)))
 
 add-formed-requires : tie.Need-add-formed-requires
-add-formed-requires c κs =
-    let st : tie.Start = search needs in
-    let a = st .args in
-    let w = now (a .words) in
-    let g : tie.After-study-given = search needs in
-    let t : tie.After-enum-told = search needs in
-    study-formed w (g .study-given .result) (g .study-given .ensures) (t .enum-told .given .1)
+add-formed-requires c κs = search study-formed
 
 same-length-2 : tie.Need-same-length-2
 same-length-2 c = search needs

@@ -4,7 +4,8 @@ use denote.Ref.{now}
 use mathlib.Core.List.{[], _∷_}
 use Rattle.trees.specs.Checks.{check1}
 use Rattle.runs.specs.Calls.{check3Open, openChecks}
-use Rattle.study.proofs.CallLaws.{one-check, stops, goes, samples-few}
+use Rattle.study.proofs.CallLaws.{one-check, stops, goes}
+use Rattle.judge.proofs.Laws.{passed1-most}
 use borrow.Author.Needs.{needs}
 use Rattle.study.proofs.checks.room_given.Statement.{statement}
 use Rattle.study.proofs.checks.room_given.Tie as tie
@@ -34,7 +35,7 @@ capacity-requires c κs =
     let a = st .args in
     let g : tie.After-samples = search needs in
     let t : tie.After-enum-told = search needs in
-    samples-few (a .n) _ (g .samples .ensures) (t .enum-told .given .1)
+    passed1-most (a .n) _ (g .samples .ensures) (t .enum-told .given .1)
 
 line-requires : tie.Need-line-requires
 line-requires c κs = search needs

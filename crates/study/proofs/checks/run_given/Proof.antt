@@ -4,7 +4,8 @@ use denote.Ref.{now}
 use mathlib.Core.List.{[], _∷_}
 use Rattle.trees.specs.Checks.{check3, rowChecks}
 use Rattle.runs.specs.Calls.{check4}
-use Rattle.study.proofs.CallLaws.{one-check, stops, goes, row-sized}
+use Rattle.study.proofs.CallLaws.{one-check, stops, goes}
+use Rattle.judge.proofs.Laws.{passed3}
 use borrow.Author.Needs.{needs}
 use Rattle.study.proofs.checks.run_given.Statement.{statement}
 use Rattle.study.proofs.checks.run_given.Tie as tie
@@ -56,7 +57,7 @@ check-row-requires c κs =
     let row = now (a .row) in
     let g : tie.After-words = search needs in
     let t : tie.After-enum-told = search needs in
-    (st .pre .0, st .pre .1, row-sized (a .n) row _ (g .words .ensures) (t .enum-told .given .1))
+    (st .pre .0, st .pre .1, passed3 (a .n) row _ (g .words .ensures) (t .enum-told .given .1))
 
 returns-3 : tie.Need-returns-3
 returns-3 c =
