@@ -1,5 +1,6 @@
 -- Words of 16 bits as bytes, low byte first. Assumes nothing.
 use Prim.Native.Nat.{ℕ, _+_, _*_, _/_, _%_, _≤_}
+use mathlib.Core.Path.{_≡_}
 use mathlib.Core.List.{List, [], _∷_}
 use lib.ListN.{length, getD, set}
 
@@ -9,6 +10,13 @@ mostWords = 32768
 
 abbrev pub Short : List ℕ → Type 0
 Short s = length s ≤ mostWords
+
+-- a whole buffer, and bytes that have room for its words
+abbrev pub Whole : List ℕ → Type 0
+Whole s = length s ≡ mostWords
+
+abbrev pub Roomy : List ℕ → Type 0
+Roomy s = 2 * mostWords ≤ length s
 
 -- the bytes of each word, low byte first
 unfoldable pub bytesOf : List ℕ → List ℕ

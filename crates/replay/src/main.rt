@@ -13,30 +13,45 @@ mod words;
 use calls::Head;
 use calls::Outcome;
 use calls::Reply;
-ghost use Rattle.replay.specs.Words.{Short};
+ghost use Rattle.replay.specs.Words.{Whole, Short, Roomy};
 
 // Requests that one run answers at most: a loop has to end, and nothing says that input does.
 const MOST_REQUESTS: u64 = u64::MAX;
 
-// Answers one request after another.
+// Answers one request after another, all of them in the same room.
 fn main() {
+    let mut a = words::buffer();
+    let mut b = words::buffer();
+    let mut c = words::buffer();
+    let mut bytes = io::large_buffer();
+    answer_all(&mut a, &mut b, &mut c, &mut bytes);
+}
+
+// Answers requests until there is none.
+fn answer_all(a: &mut [u16], b: &mut [u16], c: &mut [u16], bytes: &mut [u8])
+    requires { ⌜ Whole (now a) × Whole (now b) × Whole (now c) × Roomy (now bytes) ⌝ }
+{
     let mut left = MOST_REQUESTS;
-    while left > 0 && answer_next() {
+    while left > 0 && answer_next(a, b, c, bytes) {
         left -= 1;
     }
 }
 
 // Answers the next request, and says whether there was one to answer.
-fn answer_next() -> bool {
+fn answer_next(a: &mut [u16], b: &mut [u16], c: &mut [u16], bytes: &mut [u8]) -> bool
+    requires { ⌜ Whole (now a) × Whole (now b) × Whole (now c) × Roomy (now bytes) ⌝ }
+{
     let mut six = [0u16; 6];
-    if !moves::read_words(&mut six) {
+    if !moves::read_words(&mut six, bytes) {
         return false;
     }
-    answer_head(calls::head_of(&six))
+    answer_head(calls::head_of(&six), a, b, c, bytes)
 }
 
 // Answers the request with this head, unless a buffer is too long, and says whether it did.
-fn answer_head(head: Head) -> bool {
+fn answer_head(head: Head, a: &mut [u16], b: &mut [u16], c: &mut [u16], bytes: &mut [u8]) -> bool
+    requires { ⌜ Whole (now a) × Whole (now b) × Whole (now c) × Roomy (now bytes) ⌝ }
+{
     let la = judge::wide(head.la);
     let lb = judge::wide(head.lb);
     let lc = judge::wide(head.lc);
@@ -49,45 +64,52 @@ fn answer_head(head: Head) -> bool {
     if lc > words::MOST_WORDS {
         return false;
     }
-    let mut a = words::buffer();
-    let mut b = words::buffer();
-    let mut c = words::buffer();
-    answer_call(head, &mut a[..la], &mut b[..lb], &mut c[..lc])
+    answer_call(head, &mut a[..la], &mut b[..lb], &mut c[..lc], bytes)
 }
 
 // Fills the buffers, makes the call and writes its reply, and says whether all that was done.
-fn answer_call(head: Head, a: &mut [u16], b: &mut [u16], c: &mut [u16]) -> bool
-    requires { ⌜ Short (now a) × Short (now b) × Short (now c) ⌝ }
+fn answer_call(head: Head, a: &mut [u16], b: &mut [u16], c: &mut [u16], bytes: &mut [u8]) -> bool
+    requires { ⌜ Short (now a) × Short (now b) × Short (now c) × Roomy (now bytes) ⌝ }
 {
-    if !read_buffers(a, b, c) {
+    if !read_buffers(a, b, c, bytes) {
         return false;
     }
     let Outcome::Told(reply) = calls::called(head, a, b, c) else {
         return false;
     };
-    write_reply(reply, a, b, c)
+    write_reply(reply, a, b, c, bytes)
 }
 
 // Fills the buffers from the input, and says whether all of them were there.
-fn read_buffers(a: &mut [u16], b: &mut [u16], c: &mut [u16]) -> bool
-    requires { ⌜ Short (now a) × Short (now b) × Short (now c) ⌝ }
+fn read_buffers(a: &mut [u16], b: &mut [u16], c: &mut [u16], bytes: &mut [u8]) -> bool
+    requires { ⌜ Short (now a) × Short (now b) × Short (now c) × Roomy (now bytes) ⌝ }
 {
-    if !moves::read_words(a) {
+    if !moves::read_words(a, bytes) {
         return false;
     }
-    if !moves::read_words(b) {
+    if !moves::read_words(b, bytes) {
         return false;
     }
-    moves::read_words(c)
+    moves::read_words(c, bytes)
 }
 
 // Writes a reply with its buffers, and says whether that went well.
-fn write_reply(reply: Reply, a: &[u16], b: &[u16], c: &[u16]) -> bool
-    requires { ⌜ Short (now a) × Short (now b) × Short (now c) ⌝ }
+fn write_reply(reply: Reply, a: &[u16], b: &[u16], c: &[u16], bytes: &mut [u8]) -> bool
+    requires { ⌜ Short (now a) × Short (now b) × Short (now c) × Roomy (now bytes) ⌝ }
 {
     let six = calls::reply_words(reply);
-    moves::write_words(&six)
-        && moves::write_words(a)
-        && moves::write_words(b)
-        && moves::write_words(c)
+    moves::write_words(&six, bytes) && write_buffers(a, b, c, bytes)
+}
+
+// Writes the buffers, and says whether that went well.
+fn write_buffers(a: &[u16], b: &[u16], c: &[u16], bytes: &mut [u8]) -> bool
+    requires { ⌜ Short (now a) × Short (now b) × Short (now c) × Roomy (now bytes) ⌝ }
+{
+    if !moves::write_words(a, bytes) {
+        return false;
+    }
+    if !moves::write_words(b, bytes) {
+        return false;
+    }
+    moves::write_words(c, bytes)
 }

@@ -1,13 +1,12 @@
-// Moves words from standard input and to standard output, as bytes.
+// Moves words from standard input and to standard output, by way of bytes.
 use crate::words::fill_bytes;
 use crate::words::fill_words;
-ghost use Rattle.replay.specs.Words.{Short};
+ghost use Rattle.replay.specs.Words.{Short, Roomy};
 
 // Fills words from the input, and says whether there were so many.
-pub fn read_words(words: &mut [u16]) -> bool
-    requires { ⌜ Short (now words) ⌝ }
+pub fn read_words(words: &mut [u16], bytes: &mut [u8]) -> bool
+    requires { ⌜ Short (now words) × Roomy (now bytes) ⌝ }
 {
-    let mut bytes = io::large_buffer();
     let n = 2 * words.len();
     let got = io::read_full(libc::STDIN_FILENO, &mut bytes[..n]);
     if got < n {
@@ -18,10 +17,9 @@ pub fn read_words(words: &mut [u16]) -> bool
 }
 
 // Writes words to the output, and says whether that went well.
-pub fn write_words(words: &[u16]) -> bool
-    requires { ⌜ Short (now words) ⌝ }
+pub fn write_words(words: &[u16], bytes: &mut [u8]) -> bool
+    requires { ⌜ Short (now words) × Roomy (now bytes) ⌝ }
 {
-    let mut bytes = io::large_buffer();
     let n = 2 * words.len();
     fill_bytes(words, &mut bytes[..n]);
     io::write_all(libc::STDOUT_FILENO, &bytes[..n])

@@ -1,7 +1,7 @@
--- `replay::answer_head` is safe and ends: each length was tested, so that the part that is lent of each array is as long as it says. Assumes nothing.
-use borrow.Author.Needs.{needs}
+-- `replay::answer_head` is safe and ends: each length was tested, so that the part that is lent of each buffer is as long as it says. Assumes nothing.
 use native.Mathlib.Omega.{arith}
 use lib.ListN.{length-take}
+use borrow.Author.Needs.{needs}
 use Rattle.replay.proofs.answer_head.Statement.{statement}
 use Rattle.replay.proofs.answer_head.Tie as tie
 
@@ -23,35 +23,38 @@ returns-2 c = search needs
 returns-3 : tie.Need-returns-3
 returns-3 c = search needs
 
-buffer-requires : tie.Need-buffer-requires
-buffer-requires c κs = search needs
-
-buffer-requires-2 : tie.Need-buffer-requires-2
-buffer-requires-2 c κs = search needs
-
-buffer-requires-3 : tie.Need-buffer-requires-3
-buffer-requires-3 c κs = search needs
-
-array-borrow-prefix-a : tie.Need-array-borrow-prefix-a
-array-borrow-prefix-a c = search needs
+slice-relend-prefix-answer-call : tie.Need-slice-relend-prefix-answer-call
+slice-relend-prefix-answer-call c = search needs
 
 slice-aggregate-answer-call : tie.Need-slice-aggregate-answer-call
 slice-aggregate-answer-call c = simp length-take (omega arith)
 
-array-borrow-prefix-b : tie.Need-array-borrow-prefix-b
-array-borrow-prefix-b c = search needs
+slice-relend-prefix-answer-call-2 : tie.Need-slice-relend-prefix-answer-call-2
+slice-relend-prefix-answer-call-2 c = search needs
 
 slice-aggregate-answer-call-2 : tie.Need-slice-aggregate-answer-call-2
 slice-aggregate-answer-call-2 c = simp length-take (omega arith)
 
-array-borrow-prefix-c : tie.Need-array-borrow-prefix-c
-array-borrow-prefix-c c = search needs
+slice-relend-prefix-answer-call-3 : tie.Need-slice-relend-prefix-answer-call-3
+slice-relend-prefix-answer-call-3 c = search needs
 
 slice-aggregate-answer-call-3 : tie.Need-slice-aggregate-answer-call-3
 slice-aggregate-answer-call-3 c = simp length-take (omega arith)
 
 answer-call-requires : tie.Need-answer-call-requires
 answer-call-requires c κs = simp length-take (omega arith)
+
+same-length : tie.Need-same-length
+same-length c = search needs
+
+same-length-2 : tie.Need-same-length-2
+same-length-2 c = search needs
+
+same-length-3 : tie.Need-same-length-3
+same-length-3 c = search needs
+
+same-length-4 : tie.Need-same-length-4
+same-length-4 c = search needs
 
 returns-4 : tie.Need-returns-4
 returns-4 c = search needs
@@ -66,14 +69,15 @@ answer-head-spec =
     returns
     returns-2
     returns-3
-    buffer-requires
-    buffer-requires-2
-    buffer-requires-3
-    array-borrow-prefix-a
+    slice-relend-prefix-answer-call
     slice-aggregate-answer-call
-    array-borrow-prefix-b
+    slice-relend-prefix-answer-call-2
     slice-aggregate-answer-call-2
-    array-borrow-prefix-c
+    slice-relend-prefix-answer-call-3
     slice-aggregate-answer-call-3
     answer-call-requires
+    same-length
+    same-length-2
+    same-length-3
+    same-length-4
     returns-4)

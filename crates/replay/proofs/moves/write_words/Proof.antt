@@ -1,19 +1,17 @@
--- `replay::moves::write_words` is safe and ends: the words' bytes fit into the large buffer, and are two to a word. Assumes nothing.
-use borrow.Author.Needs.{needs}
+-- `replay::moves::write_words` is safe and ends: the words' bytes have room, and are two to a word. Assumes nothing.
 use native.Mathlib.Omega.{arith}
 use Prim.Native.Nat.{_*_}
 use lib.ListN.{length, length-take, length-append, length-drop}
+use denote.Ref.{now}
+use borrow.Author.Needs.{needs}
 use Rattle.replay.proofs.moves.write_words.Statement.{statement}
 use Rattle.replay.proofs.moves.write_words.Tie as tie
-
-large-buffer-requires : tie.Need-large-buffer-requires
-large-buffer-requires c κs = search needs
 
 mul-n : tie.Need-mul-n
 mul-n c = search needs
 
-array-borrow-prefix-bytes : tie.Need-array-borrow-prefix-bytes
-array-borrow-prefix-bytes c = search needs
+slice-relend-prefix-fill-bytes : tie.Need-slice-relend-prefix-fill-bytes
+slice-relend-prefix-fill-bytes c = search needs
 
 slice-aggregate-fill-bytes : tie.Need-slice-aggregate-fill-bytes
 slice-aggregate-fill-bytes c = simp length-take (omega arith)
@@ -21,20 +19,20 @@ slice-aggregate-fill-bytes c = simp length-take (omega arith)
 fill-bytes-requires : tie.Need-fill-bytes-requires
 fill-bytes-requires c κs = simp length-take (omega arith)
 
-array-share-prefix-bytes : tie.Need-array-share-prefix-bytes
-array-share-prefix-bytes c =
-    let e = c .before .before .before in
-    let l = length-take (2 * length (e .before .before .args .words .now)) (e .large-buffer .result) in
-    simp (length-append, length-drop) (omega arith)
+slice-reshare-prefix-write-all : tie.Need-slice-reshare-prefix-write-all
+slice-reshare-prefix-write-all c = search needs
 
 slice-aggregate-write-all : tie.Need-slice-aggregate-write-all
 slice-aggregate-write-all c =
-    let e = c .before .before .before .before in
-    let l = length-take (2 * length (e .before .before .args .words .now)) (e .large-buffer .result) in
+    let st : tie.Start = search needs in
+    let l = length-take (2 * length (now (st .args .words))) (now (st .args .bytes)) in
     simp (length-take, length-append, length-drop) (omega arith)
 
 write-all-requires : tie.Need-write-all-requires
 write-all-requires c κs = search needs
+
+same-length : tie.Need-same-length
+same-length c = search needs
 
 returns : tie.Need-returns
 returns c = search needs
@@ -43,12 +41,12 @@ pub write-words-spec : {M : Type 1} → statement M
 write-words-spec =
     tie.close
     (tie.spec
-    large-buffer-requires
     mul-n
-    array-borrow-prefix-bytes
+    slice-relend-prefix-fill-bytes
     slice-aggregate-fill-bytes
     fill-bytes-requires
-    array-share-prefix-bytes
+    slice-reshare-prefix-write-all
     slice-aggregate-write-all
     write-all-requires
+    same-length
     returns)
