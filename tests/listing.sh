@@ -16,22 +16,29 @@ start() {
   head -n 1 "$1" | head -c 60 | tr -d '\0'
 }
 
+# compare STEM PROGRAM..: writes STEM.res, which is empty if the program's output for STEM.in is STEM.out
+compare() {
+  local stem=$1 status
+  shift
+  "$@" <"$stem.in" >"$stem.came"
+  status=$?
+  # A status of 128 or more: the program was ended by a signal.
+  if cmp -s "$stem.out" "$stem.came" && [[ $status -lt 128 ]]; then
+    : >"$stem.res"
+  else
+    echo "$(basename "$stem"): expected '$(start "$stem.out")' .., came '$(start "$stem.came")' .., status $status" >"$stem.res"
+  fi
+}
+export -f start compare
+
 folder=$(mktemp -d)
 trap 'rm -rf "$folder"' EXIT
 python3 "$(dirname "$0")/second/files.py" "$folder" || exit 1
-passed=0
-failed=0
 for input in "$folder"/*.in; do
-  name=$(basename "$input" .in)
-  "$@" <"$input" >"$folder/came"
-  status=$?
-  # A status of 128 or more: the program was ended by a signal.
-  if cmp -s "$folder/$name.out" "$folder/came" && [[ $status -lt 128 ]]; then
-    passed=$((passed + 1))
-  else
-    failed=$((failed + 1))
-    echo "$name: expected '$(start "$folder/$name.out")' .., came '$(start "$folder/came")' .., status $status"
-  fi
-done
-echo "$passed passed, $failed failed"
-[[ $failed -eq 0 && $passed -gt 0 ]]
+  printf '%s\0' "${input%.in}"
+done | xargs -0 -P "$(nproc)" -I STEM bash -c 'compare "$@"' bash STEM "$@"
+files=$(find "$folder" -name '*.in' | wc -l)
+passed=$(find "$folder" -name '*.res' -empty | wc -l)
+cat "$folder"/*.res
+echo "$passed passed, $((files - passed)) failed"
+[[ $passed -eq $files && $passed -gt 0 ]]
