@@ -16,7 +16,8 @@ use Rattle.text.specs.Files.{fileSamples, fileRuns, fileOf}
 use Rattle.text.specs.FileLaws.{good-file}
 use Rattle.text.specs.declared.file.File.{File}
 use Rattle.text.specs.declared.file.File.the-variants.{Bad, Good}
-use Rattle.listing.specs.Listing.{Listed, refusal, tree, studyWords, unless, firstRefused, slotCall, reports, addsAndReports, listedFile, listedOf, listed}
+use Rattle.listing.specs.Listing.{Listed, tree, studyWords, unless, firstRefused, slotCall, reports, addsAndReports}
+use Rattle.listing.specs.Listing.{listedFile, listedOf, listed}
 
 -- ---- only calls that are accepted lead to a tree
 

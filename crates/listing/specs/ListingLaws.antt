@@ -23,7 +23,8 @@ use Rattle.judge.specs.declared.Answer.the-variants.{Accepted, Refused as Answe
 use Rattle.text.specs.Files.{fileOf, fileBytes, wordAt, slotIdentifier}
 use Rattle.text.specs.Lines.{refusalLine, headLine, nodeLine, treeLines}
 use Rattle.text.specs.declared.file.File.the-variants.{Bad, Good}
-use Rattle.listing.specs.Listing.{Listed, refusal, studyWords, unless, firstRefused, slotCall, reports, addsAndReports, listedFile, listedOf, listed, linesOf}
+use Rattle.listing.specs.Listing.{Listed, refusal, studyWords, unless, firstRefused, slotCall, reports, addsAndReports}
+use Rattle.listing.specs.Listing.{listedFile, listedOf, listed, linesOf}
 use Rattle.listing.specs.Told.{toldOf, goesOn, Loaded, shows, rowRoom, Printable}
 use Rattle.listing.specs.declared.told.Told.{Told}
 use Rattle.listing.specs.declared.told.Told.the-variants.{Refused, Ready}
@@ -47,26 +48,26 @@ module _ (n k : ℕ) (w : List ℕ) (call : ℕ → Call) (j : ℕ) where
 -- ---- what the code tells
 
 -- a refusal is told, and nothing comes next
-pub told-stops : (a : Answer) (slot n k x y z : ℕ) (next : Listed) (w : List ℕ) → toldOf a slot n k ≡ Refused x y z
+pub told-stops : (a : Answer) (slot n k : ℕ) {x y z : ℕ} (next : Listed) (w : List ℕ) → toldOf a slot n k ≡ Refused x y z
     → (goesOn (toldOf a slot n k) w ≡ unless (verdict a) slot next) × Loaded (toldOf a slot n k) w
-told-stops Accepted slot n k x y z next w e = let q : _≡_ {A = ℕ} 0 1 = cc in absurd (omega arith)
-told-stops (Answer·Refused number place) slot n k x y z next w e = (refl, tt)
+told-stops Accepted slot n k next w e = let q : _≡_ {A = ℕ} 0 1 = cc in absurd (omega arith)
+told-stops (Answer·Refused number place) slot n k next w e = (refl, tt)
 
-pub told-goes : (a : Answer) (slot n k x y : ℕ) → toldOf a slot n k ≡ Ready x y → (verdict a ≡ accepted) × (x ≡ n) × (y ≡ k)
-told-goes Accepted slot n k x y e = (refl, cc, cc)
-told-goes (Answer·Refused number place) slot n k x y e = let q : _≡_ {A = ℕ} 0 1 = cc in absurd (omega arith)
+pub told-goes : (a : Answer) (slot n k : ℕ) {x y : ℕ} → toldOf a slot n k ≡ Ready x y → (verdict a ≡ accepted) × (x ≡ n) × (y ≡ k)
+told-goes Accepted slot n k e = (refl, cc, cc)
+told-goes (Answer·Refused number place) slot n k e = let q : _≡_ {A = ℕ} 0 1 = cc in absurd (omega arith)
 
 module _ (n k : ℕ) (w : List ℕ) (call : ℕ → Call) (j : ℕ) (h : j < k) (a : Answer) (e : verdict a ≡ called w (call j) .verdict) where
-  pub adds-stops : (x y z : ℕ) (v : List ℕ) → toldOf a j n k ≡ Refused x y z
+  pub adds-stops : {x y z : ℕ} (v : List ℕ) → toldOf a j n k ≡ Refused x y z
       → (goesOn (toldOf a j n k) v ≡ addsAndReports n k w (tabulate (k - j) call j) j) × Loaded (toldOf a j n k) v
-  adds-stops x y z v q =
+  adds-stops v q =
       let next = addsAndReports n k (called w (call j) .words) (tabulate (k - (j + 1)) call (j + 1)) (j + 1) in
-      let s = told-stops a j n k x y z next v q in
+      let s = told-stops a j n k next v q in
       (s .0 ∙ ap (λ (o : Verdict). unless o j next) e ∙ sym (adds-next n k w call j h), s .1)
 
-  pub adds-goes : (x y : ℕ) (v : List ℕ) → toldOf a j n k ≡ Ready x y → v ≡ called w (call j) .words
+  pub adds-goes : {x y : ℕ} (v : List ℕ) → toldOf a j n k ≡ Ready x y → v ≡ called w (call j) .words
       → addsAndReports n k v (tabulate (k - (j + 1)) call (j + 1)) (j + 1) ≡ addsAndReports n k w (tabulate (k - j) call j) j
-  adds-goes x y v q d = rw (d, adds-next n k w call j h, ← e, told-goes a j n k x y q .0) refl
+  adds-goes v q d = rw (d, adds-next n k w call j h, ← e, told-goes a j n k q .0) refl
 
 -- ---- opening
 
@@ -93,16 +94,17 @@ listed-good bytes n k w a e l v = ap (listedOf bytes) e ∙ go a (v ∙ same)
     go Accepted q = rw (← q, opened-words n w (same ∙ sym q), opened-words n (zeros studyWords) (sym q), l, length-replicate)
     go (Answer·Refused number place) q = rw (← q) refl
 
-module _ (bytes : List ℕ) (n k : ℕ) (w : List ℕ) (a : Answer) (e : fileOf bytes ≡ Good n k) (l : length w ≡ studyWords) (o : verdict a ≡ opened n w .verdict) where
-  pub load-stops : (x y z : ℕ) (v : List ℕ) → toldOf a 0 n k ≡ Refused x y z → (goesOn (toldOf a 0 n k) v ≡ listed bytes) × Loaded (toldOf a 0 n k) v
-  load-stops x y z v q =
-      let s = told-stops a 0 n k x y z (addsAndReports n k (opened n w .words) (tabulate k (slotCall bytes n) 0) 0) v q in
+module _ (bytes : List ℕ) {n k : ℕ} (w : List ℕ) (a : Answer) (e : fileOf bytes ≡ Good n k) (l : length w ≡ studyWords)
+    (o : verdict a ≡ opened n w .verdict) where
+  pub load-stops : {x y z : ℕ} (v : List ℕ) → toldOf a 0 n k ≡ Refused x y z → (goesOn (toldOf a 0 n k) v ≡ listed bytes) × Loaded (toldOf a 0 n k) v
+  load-stops v q =
+      let s = told-stops a 0 n k (addsAndReports n k (opened n w .words) (tabulate k (slotCall bytes n) 0) 0) v q in
       (s .0 ∙ sym (listed-good bytes n k w a e l o), s .1)
 
-  pub load-goes : (x y : ℕ) (v : List ℕ) → toldOf a 0 n k ≡ Ready x y → v ≡ opened n w .words
+  pub load-goes : {x y : ℕ} (v : List ℕ) → toldOf a 0 n k ≡ Ready x y → v ≡ opened n w .words
       → Kept studyWords n v × (addsAndReports n k v (tabulate k (slotCall bytes n) 0) 0 ≡ listed bytes)
-  load-goes x y v q d =
-      let t = told-goes a 0 n k x y q .0 in
+  load-goes v q d =
+      let t = told-goes a 0 n k q .0 in
       (rw (d, ← l) (opened-kept n w (sym o ∙ t)), rw d (sym (listed-good bytes n k w a e l o ∙ rw t)))
 
 -- an identifier in a file is a word
@@ -136,9 +138,10 @@ report-shows n k w a s x y answer q la ls v ex ey = go answer v
         let long : length y ≡ rowWords n = rw (ey, ← q) (reported-length w a s (sym e)) in
         let r = reported-rows majority w a s (sym e) in
         let t = reported-rows majority w z z (sym (e ∙ same)) in
-        let p : take (rowWords n) x ≡ reported majority w z z .agreedRow = take-all (rowWords n) x (omega (arith, std .valid .words)) ∙ ex ∙ r .0 ∙ sym (t .0) in
+        let whole = take-all (rowWords n) x (omega (arith, std .valid .words)) in
+        let p : take (rowWords n) x ≡ reported majority w z z .agreedRow = whole ∙ ex ∙ r .0 ∙ sym (t .0) in
         let d : take (rowWords n) y ≡ reported majority w z z .supportRow = take-all (rowWords n) y (omega arith) ∙ ey ∙ r .1 ∙ sym (t .1) in
-        (rw (← same, ← e, p, d) refl, (rw (take-all (rowWords n) x (omega (arith, std .valid .words))) std, omega arith))
+        (rw (← same, ← e, p, d) refl, (rw whole std, omega arith))
 
 -- ---- the lines of a tree
 
@@ -159,9 +162,9 @@ module _ (n k : ℕ) (row support : List ℕ) where
 
 -- ---- the lines of what is told
 
-pub refused-line : (t : Told) (x y z i : ℕ) (a s : List ℕ) → t ≡ Refused x y z → i < length (linesOf (shows t a s))
+pub refused-line : {t : Told} {x y z : ℕ} (i : ℕ) (a s : List ℕ) → t ≡ Refused x y z → i < length (linesOf (shows t a s))
     → getD (linesOf (shows t a s)) i [] ≡ refusalLine x y z
-refused-line t x y z i a s e h = ap (λ (u : Told). getD (linesOf (shows u a s)) i []) e ∙ go i (rw e at h)
+refused-line {t} {x} {y} {z} i a s e h = ap (λ (u : Told). getD (linesOf (shows u a s)) i []) e ∙ go i (rw e at h)
   where
     go : (j : ℕ) → j < 1 → getD (refusalLine x y z ∷ []) j [] ≡ refusalLine x y z
     go zero l = refl
@@ -172,7 +175,7 @@ front-nodes : (n : ℕ) (a : List ℕ) → fewestSamples ≤ n → nodes (take (
 unfolding nodes
 front-nodes n a h = getD-take (rowWords n) a 0 0 (omega arith)
 
-module _ (t : Told) (n k : ℕ) (a s : List ℕ) (e : t ≡ Ready n k) where
+module _ {t : Told} {n k : ℕ} (a s : List ℕ) (e : t ≡ Ready n k) where
   pub ready-lines : linesOf (shows t a s) ≡ treeLines n k (take (rowWords n) a) (take (rowWords n) s)
   ready-lines = ap (λ (u : Told). linesOf (shows u a s)) e
 
@@ -193,16 +196,17 @@ module _ (t : Told) (n k : ℕ) (a s : List ℕ) (e : t ≡ Ready n k) where
     ready-count =
         let v = ready-standard .valid in
         let same : nodes (take (rowWords n) a) ≡ nodes a = front-nodes n a (v .least) in
-        (rw same at (v .low), omega (arith, v .high, v .most, same), ap length ready-lines ∙ tree-count n k (take (rowWords n) a) (take (rowWords n) s) ∙ rw same)
+        let count = tree-count n k (take (rowWords n) a) (take (rowWords n) s) in
+        (rw same at (v .low), omega (arith, v .high, v .most, same), ap length ready-lines ∙ count ∙ rw same)
 
-pub told-refused : (t : Told) (x y z : ℕ) (w a s : List ℕ) (r : Listed) → t ≡ Refused x y z → goesOn t w ≡ r → (shows t a s ≡ r) × Printable t a s
-told-refused t x y z w a s r e = subst (λ (u : Told). goesOn u w ≡ r → (shows u a s ≡ r) × Printable u a s) (sym e) (λ q. (q, tt))
+pub told-refused : {t : Told} {x y z : ℕ} (w a s : List ℕ) (r : Listed) → t ≡ Refused x y z → goesOn t w ≡ r → (shows t a s ≡ r) × Printable t a s
+told-refused w a s r e = subst (λ (u : Told). goesOn u w ≡ r → (shows u a s ≡ r) × Printable u a s) (sym e) (λ q. (q, tt))
 
-pub ready-kept : (t : Told) (n k : ℕ) (w : List ℕ) → t ≡ Ready n k → Loaded t w → Kept studyWords n w
-ready-kept t n k w e = subst (λ (u : Told). Loaded u w) e
+pub ready-kept : {t : Told} {n k : ℕ} (w : List ℕ) → t ≡ Ready n k → Loaded t w → Kept studyWords n w
+ready-kept w e = subst (λ (u : Told). Loaded u w) e
 
-pub ready-listed : (t : Told) (n k : ℕ) (w : List ℕ) (r : Listed) → t ≡ Ready n k → goesOn t w ≡ r → reports n k w ≡ r
-ready-listed t n k w r e = subst (λ (u : Told). goesOn u w ≡ r) e
+pub ready-listed : {t : Told} {n k : ℕ} (w : List ℕ) (r : Listed) → t ≡ Ready n k → goesOn t w ≡ r → reports n k w ≡ r
+ready-listed w r e = subst (λ (u : Told). goesOn u w ≡ r) e
 
 -- what stands behind the rows is not shown
 pub shows-front : (t : Told) (a s u v : List ℕ) → Printable t a s → (shows t (a ++ u) (s ++ v) ≡ shows t a s) × Printable t (a ++ u) (s ++ v)

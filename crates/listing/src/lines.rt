@@ -28,7 +28,8 @@ pub fn line_count(told: Told, agreed: &[u16], support: &[u16]) -> usize
 
 // Line i of a tree.
 fn tree_line(n: usize, k: usize, row: &[u16], support: &[u16], i: usize, out: &mut [u8]) -> usize
-    requires { ⌜ Standard n (now row) × (length (now support) ≡ rowWords n) × (i < length (treeLines n k (now row) (now support))) × (lineBytes ≤ length (now out)) ⌝ }
+    requires { ⌜ Standard n (now row) × (length (now support) ≡ rowWords n) ⌝ }
+    requires { ⌜ (i < length (treeLines n k (now row) (now support))) × (lineBytes ≤ length (now out)) ⌝ }
     ensures { λ r. ⌜ Written (getD (treeLines n k (now (row .entry)) (now (support .entry))) i []) (now (out .entry)) (now (out .exit)) r ⌝ }
 {
     if i == 0 {

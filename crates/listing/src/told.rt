@@ -1,9 +1,9 @@
 // What a file comes to: its slots added to a study in file order, and the report.
 ghost use mathlib.Core.Path.{_≡_};
-ghost use Prim.Native.Nat.{_+_, _*_, _≤_};
+ghost use Prim.Native.Nat.{_+_, _≤_};
 ghost use lib.ListN.{length};
 ghost use Rattle.trees.specs.Lists.{tabulate};
-ghost use Rattle.trees.specs.Checks.{mostSamples, rowWords};
+ghost use Rattle.trees.specs.Checks.{rowWords};
 ghost use Rattle.runs.specs.CallLaws.{Kept};
 ghost use Rattle.runs.specs.Histories.{called};
 ghost use Rattle.judge.specs.Verdicts.{verdict};

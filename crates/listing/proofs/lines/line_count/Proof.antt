@@ -24,17 +24,15 @@ returns c = rw (c .enum-told .given .1) refl
 nodes-requires : tie.Need-nodes-requires
 nodes-requires c κs =
     let st = c .before .before .before .before .before in
-    let a = st .args in
-    omega (arith, ready-fits (a .told) (c .before .told .given .0 .0) (c .before .told .given .0 .1 .0) (now (a .agreed)) (now (a .support)) (c .before .told .given .1) (st .pre))
+    omega (arith, ready-fits (now (st .args .agreed)) (now (st .args .support)) (c .before .told .given .1) (st .pre))
 
 -- what is known of a tree that is ready
 ready : (c : tie.After-known-told) → let a = c .before .before .before .before .before .args in
-    (c .before .told .given .0 .0 < nodes (now (a .agreed)))
-    × (nodes (now (a .agreed)) < rowRoom) × (length (linesOf (shows (a .told) (now (a .agreed)) (now (a .support)))) ≡ nodes (now (a .agreed)) - c .before .told .given .0 .0 + 1)
+    let n = c .before .told .given .0 .0 in let m = nodes (now (a .agreed)) in
+    (n < m) × (m < rowRoom) × (length (linesOf (shows (a .told) (now (a .agreed)) (now (a .support)))) ≡ m - n + 1)
 ready c =
     let st = c .before .before .before .before .before in
-    let a = st .args in
-    ready-count (a .told) (c .before .told .given .0 .0) (c .before .told .given .0 .1 .0) (now (a .agreed)) (now (a .support)) (c .before .told .given .1) (st .pre)
+    ready-count (now (st .args .agreed)) (now (st .args .support)) (c .before .told .given .1) (st .pre)
 
 sub-result : tie.Need-sub-result
 sub-result c = omega (arith, ready (c .before), c .nodes .ensures)

@@ -15,7 +15,7 @@ few : (c : tie.After-told2) → let st : tie.Start = search needs in let n = c .
 few c =
     let st : tie.Start = search needs in
     let a = st .args in
-    ready-fits (a .told) (c .told2 .given .0 .0) (c .told2 .given .0 .1 .0) (now (a .agreed)) (now (a .support)) (c .told2 .given .1) (st .pre .0)
+    ready-fits (now (a .agreed)) (now (a .support)) (c .told2 .given .1) (st .pre .0)
 
 enum-known-told : tie.Need-enum-known-told
 enum-known-told c = search needs
@@ -43,13 +43,9 @@ tree-line-requires c κs =
     let t : tie.After-told2 = search needs in
     let st : tie.Start = search needs in
     let a = st .args in
-    let n = t .told2 .given .0 .0 in
-    let k = t .told2 .given .0 .1 .0 in
     let e = t .told2 .given .1 in (
-      ready-standard (a .told) n k (now (a .agreed)) (now (a .support)) e (st .pre .0),
-      simp length-take (omega (arith, few t)),
-      rw (ready-lines (a .told) n k (now (a .agreed)) (now (a .support)) e) at (st .pre .1),
-      st .pre .2,
+      (ready-standard (now (a .agreed)) (now (a .support)) e (st .pre .0), simp length-take (omega (arith, few t))),
+      (rw (ready-lines (now (a .agreed)) (now (a .support)) e) at (st .pre .1), st .pre .2),
     )
 
 same-length : tie.Need-same-length
@@ -61,8 +57,7 @@ returns c =
     let st : tie.Start = search needs in
     let a = st .args in
     let p : tie.After-put-refusal = search needs in
-    rw (refused-line (a .told) (t .told .given .0 .0) (t .told .given .0 .1 .0) (t .told .given .0 .1 .1 .0) (a .i) (now (a .agreed)) (now (a .support))
-    (t .told .given .1) (st .pre .1)) (p .put-refusal .ensures)
+    rw (refused-line (a .i) (now (a .agreed)) (now (a .support)) (t .told .given .1) (st .pre .1)) (p .put-refusal .ensures)
 
 same-length-2 : tie.Need-same-length-2
 same-length-2 c = search needs
@@ -73,7 +68,7 @@ returns-2 c =
     let st : tie.Start = search needs in
     let a = st .args in
     let p : tie.After-tree-line = search needs in
-    rw (ready-lines (a .told) (t .told2 .given .0 .0) (t .told2 .given .0 .1 .0) (now (a .agreed)) (now (a .support)) (t .told2 .given .1)) (p .tree-line .ensures)
+    rw (ready-lines (now (a .agreed)) (now (a .support)) (t .told2 .given .1)) (p .tree-line .ensures)
 
 pub put-line-spec : {M : Type 1} → statement M
 put-line-spec =

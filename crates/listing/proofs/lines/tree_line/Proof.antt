@@ -15,8 +15,8 @@ use Rattle.listing.proofs.lines.tree_line.Tie as tie
 some : (st : tie.Start) → let a = st .args in (a .i < nodes (now (a .row)) - a .n + 1) × (a .n < nodes (now (a .row))) × (nodes (now (a .row)) < 1024)
 some st =
     let a = st .args in
-    let v = st .pre .0 .valid in
-    (rw (tree-count (a .n) (a .k) (now (a .row)) (now (a .support))) at (st .pre .2), v .low, omega (arith, v .high, v .most))
+    let v = st .pre .0 .0 .valid in
+    (rw (tree-count (a .n) (a .k) (now (a .row)) (now (a .support))) at (st .pre .1 .0), v .low, omega (arith, v .high, v .most))
 
 put-head-requires : tie.Need-put-head-requires
 put-head-requires c κs = search needs
@@ -39,7 +39,7 @@ sub-put-node : tie.Need-sub-put-node
 sub-put-node c = search needs
 
 put-node-requires : tie.Need-put-node-requires
-put-node-requires c κs = let st : tie.Start = search needs in (st .pre .0, st .pre .1, omega (arith, some st), omega (arith, some st), st .pre .3)
+put-node-requires c κs = let st : tie.Start = search needs in (st .pre .0 .0, st .pre .0 .1, omega (arith, some st), omega (arith, some st), st .pre .1 .1)
 
 same-length-2 : tie.Need-same-length-2
 same-length-2 c = search needs
@@ -50,7 +50,7 @@ returns-2 c =
     let a = st .args in
     let p : tie.After-put-node = search needs in
     let t : tie.Else1 = search needs in
-    rw (tree-next (a .n) (a .k) (now (a .row)) (now (a .support)) (a .i) (omega (arith, t .if1 .left)) (st .pre .2)) (p .put-node .ensures)
+    rw (tree-next (a .n) (a .k) (now (a .row)) (now (a .support)) (a .i) (omega (arith, t .if1 .left)) (st .pre .1 .0)) (p .put-node .ensures)
 
 pub tree-line-spec : {M : Type 1} → statement M
 tree-line-spec =

@@ -52,10 +52,9 @@ returns c =
     let l : tie.In-loop Inv-loop μ-loop = search needs in
     let p : tie.After-add-slot Inv-loop μ-loop = search needs in
     let t : tie.After-told-of Inv-loop μ-loop = search needs in
-    let e = c .enum-told2 .given in
     let o = l .before .loop in
     let s = adds-stops (a .n) (a .k) (o .words) (slotCall (now (a .bytes)) (a .n)) (o .j) (l .loop-test .taken) (p .add-slot .result) (p .add-slot .ensures .0)
-    (e .0 .0) (e .0 .1 .0) (e .0 .1 .1 .0) _ (sym (t .told-of .ensures) ∙ e .1) in
+    _ (sym (t .told-of .ensures) ∙ c .enum-told2 .given .1) in
     rw (t .told-of .ensures) (s .0 ∙ o .inv .2, s .1)
 
 add-j : tie.Need-add-j Inv-loop μ-loop
@@ -71,12 +70,11 @@ loop-again c =
     let l : tie.In-loop Inv-loop μ-loop = search needs in
     let p : tie.After-add-slot Inv-loop μ-loop = search needs in
     let t : tie.After-told-of Inv-loop μ-loop = search needs in
-    let e = c .enum-told .given in
     let o = l .before .loop in (
       omega arith,
       p .add-slot .ensures .1 .1,
       adds-goes (a .n) (a .k) (o .words) (slotCall (now (a .bytes)) (a .n)) (o .j) (l .loop-test .taken) (p .add-slot .result) (p .add-slot .ensures .0)
-          (e .0 .0) (e .0 .1 .0) _ (sym (t .told-of .ensures) ∙ e .1) (p .add-slot .ensures .1 .0)
+          _ (sym (t .told-of .ensures) ∙ c .enum-told .given .1) (p .add-slot .ensures .1 .0)
           ∙ o .inv .2,
     )
 

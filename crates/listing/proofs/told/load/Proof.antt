@@ -22,9 +22,8 @@ goes c =
     let g : tie.After-n = search needs in
     let p : tie.After-open = search needs in
     let t : tie.After-told-of = search needs in
-    let e = c .enum-told2 .given in
-    load-goes (now (a .bytes)) (g .n .given .0 .0) (g .n .given .0 .1 .0) (now (a .words)) (p .«open» .result) (sym (f .file-of .ensures) ∙ g .n .given .1) (st .pre)
-    (p .«open» .ensures .0) (e .0 .0) (e .0 .1 .0) _ (sym (t .told-of .ensures) ∙ e .1) (p .«open» .ensures .1)
+    load-goes (now (a .bytes)) (now (a .words)) (p .«open» .result) (sym (f .file-of .ensures) ∙ g .n .given .1) (st .pre) (p .«open» .ensures .0) _
+    (sym (t .told-of .ensures) ∙ c .enum-told2 .given .1) (p .«open» .ensures .1)
 
 file-of-requires : tie.Need-file-of-requires
 file-of-requires c κs = search needs
@@ -64,17 +63,17 @@ returns-2 c =
     let g : tie.After-n = search needs in
     let p : tie.After-open = search needs in
     let t : tie.After-told-of = search needs in
-    let e = c .enum-told3 .given in
     rw (t .told-of .ensures)
-    (load-stops (now (a .bytes)) (g .n .given .0 .0) (g .n .given .0 .1 .0) (now (a .words)) (p .«open» .result) (sym (f .file-of .ensures) ∙ g .n .given .1) (st .pre)
-    (p .«open» .ensures .0) (e .0 .0) (e .0 .1 .0) (e .0 .1 .1 .0) _ (sym (t .told-of .ensures) ∙ e .1))
+    (load-stops (now (a .bytes)) (now (a .words)) (p .«open» .result) (sym (f .file-of .ensures) ∙ g .n .given .1) (st .pre) (p .«open» .ensures .0) _
+    (sym (t .told-of .ensures) ∙ c .enum-told3 .given .1))
 
 add-slots-requires : tie.Need-add-slots-requires
 add-slots-requires c κs =
     let st : tie.Start = search needs in
     let f : tie.After-file-of = search needs in
     let g : tie.After-n = search needs in
-    (goes (search needs) .0, omega (arith, good-length (now (st .args .bytes)) (g .n .given .0 .0) (g .n .given .0 .1 .0) (sym (f .file-of .ensures) ∙ g .n .given .1)))
+    let long = good-length (now (st .args .bytes)) (g .n .given .0 .0) (g .n .given .0 .1 .0) (sym (f .file-of .ensures) ∙ g .n .given .1) in
+    (goes (search needs) .0, omega (arith, long))
 
 same-length-2 : tie.Need-same-length-2
 same-length-2 c = search needs

@@ -25,8 +25,8 @@ returns c =
     let p : tie.After-report-formed = search needs in
     let t : tie.After-told-of = search needs in
     rw (t .told-of .ensures)
-    (report-shows (a .n) (a .k) (now (a .words)) (now (a .agreed)) (now (a .support)) _ _ (p .report-formed .result) (st .pre .0 .same) (st .pre .1) (st .pre .2)
-    (p .report-formed .ensures .0) (p .report-formed .ensures .1 .0) (p .report-formed .ensures .1 .1))
+    (report-shows (a .n) (a .k) (now (a .words)) (now (a .agreed)) (now (a .support)) _ _ (p .report-formed .result) (st .pre .0 .same) (st .pre .1)
+    (st .pre .2) (p .report-formed .ensures .0) (p .report-formed .ensures .1 .0) (p .report-formed .ensures .1 .1))
 
 pub report-ready-spec : {M : Type 1} → statement M
 report-ready-spec =

@@ -15,7 +15,7 @@ use Rattle.listing.proofs.told.tell.Tie as tie
 few : (c : tie.After-told) → c .told .given .0 .0 ≤ mostSamples
 few c =
     let p : tie.After-load = search needs in
-    let k = ready-kept (p .load .result) (c .told .given .0 .0) (c .told .given .0 .1 .0) _ (c .told .given .1) (p .load .ensures .1) in
+    let k = ready-kept _ (c .told .given .1) (p .load .ensures .1) in
     omega (arith, k .formed .most, k .same)
 
 load-requires : tie.Need-load-requires
@@ -34,9 +34,7 @@ returns : tie.Need-returns
 returns c =
     let st : tie.Start = search needs in
     let p : tie.After-load = search needs in
-    let e = c .enum-told .given in
-    told-refused (p .load .result) (e .0 .0) (e .0 .1 .0) (e .0 .1 .1 .0) _ (now (st .args .agreed)) (now (st .args .support)) (listed (now (st .args .bytes))) (e .1)
-    (p .load .ensures .0)
+    told-refused _ (now (st .args .agreed)) (now (st .args .support)) (listed (now (st .args .bytes))) (c .enum-told .given .1) (p .load .ensures .0)
 
 mul-report-ready : tie.Need-mul-report-ready
 mul-report-ready c = omega (arith, few (search needs))
@@ -60,7 +58,7 @@ report-ready-requires : tie.Need-report-ready-requires
 report-ready-requires c κs =
     let p : tie.After-load = search needs in
     let t : tie.After-told = search needs in (
-      ready-kept (p .load .result) (t .told .given .0 .0) (t .told .given .0 .1 .0) _ (t .told .given .1) (p .load .ensures .1),
+      ready-kept _ (t .told .given .1) (p .load .ensures .1),
       simp length-take (omega (arith, few t)),
       simp length-take (omega (arith, few t)),
     )
@@ -82,7 +80,7 @@ returns-2 c =
     let t : tie.After-told = search needs in
     let s = shows-front (q .report-ready .result) _ _ (drop (2 * t .told .given .0 .0) (now (st .args .agreed)))
     (drop (2 * t .told .given .0 .0) (now (st .args .support))) (q .report-ready .ensures .1) in
-    (s .0 ∙ q .report-ready .ensures .0 ∙ ready-listed (p .load .result) (t .told .given .0 .0) (t .told .given .0 .1 .0) _ _ (t .told .given .1) (p .load .ensures .0), s .1)
+    (s .0 ∙ q .report-ready .ensures .0 ∙ ready-listed _ _ (t .told .given .1) (p .load .ensures .0), s .1)
 
 pub tell-spec : {M : Type 1} → statement M
 tell-spec =
