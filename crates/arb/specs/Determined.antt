@@ -11,9 +11,9 @@ use Rattle.runs.specs.Reports.{Report, reported}
 use Rattle.judge.specs.declared.Answer.{Answer}
 use Rattle.judge.specs.Verdicts.{verdict}
 use Rattle.judge.specs.VerdictLaws.{verdict-injective}
-use Rattle.row.specs.declared.comparing.Comparison.{Comparison}
-use Rattle.row.specs.Comparisons.{comparison}
-use Rattle.row.specs.ComparisonLaws.{comparison-injective}
+use Rattle.compare.specs.declared.Comparison.{Comparison}
+use Rattle.compare.specs.Comparisons.{comparison}
+use Rattle.compare.specs.ComparisonLaws.{comparison-injective}
 
 pub judge-determined : (n : ℕ) (row : List ℕ) (a b : Answer) → verdict a ≡ judged n row → verdict b ≡ judged n row → a ≡ b
 judge-determined n row a b p q = verdict-injective a b (p ∙ sym q)

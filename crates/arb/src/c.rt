@@ -6,10 +6,10 @@ ghost use Rattle.trees.specs.Reporting.{majority};
 ghost use Rattle.runs.specs.Calls.{opened, added, withdrawn};
 ghost use Rattle.runs.specs.Reports.{reported};
 ghost use Rattle.judge.specs.Verdicts.{verdict};
-ghost use Rattle.row.specs.Comparisons.{comparison};
+ghost use Rattle.compare.specs.Comparisons.{comparison};
 ghost use Rattle.arb.specs.Packing.{packed};
+use compare::Comparison;
 use judge::Answer;
-use row::Comparison;
 
 // How many numbers, places and counts a packed answer tells apart.
 const NUMBERS: u64 = 256;

@@ -8,9 +8,9 @@ ghost use Rattle.trees.specs.Reporting.{majority};
 ghost use Rattle.runs.specs.Calls.{opened, added, withdrawn};
 ghost use Rattle.runs.specs.Reports.{reported};
 ghost use Rattle.judge.specs.Verdicts.{verdict};
-ghost use Rattle.row.specs.Comparisons.{comparison};
+ghost use Rattle.compare.specs.Comparisons.{comparison};
+use compare::Comparison;
 use judge::Answer;
-use row::Comparison;
 
 // Opening: an empty study over n samples, in words of any content; or a refusal that leaves them as they were.
 pub fn open(n: usize, words: &mut [u16]) -> Answer
@@ -64,5 +64,5 @@ pub fn renumber(n: usize, row: &[u16], out: &mut [u16]) -> Answer
 pub fn compare(n: usize, first: &[u16], second: &[u16]) -> Comparison
     ensures { λ r. ⌜ comparison r ≡ comparing n (now (first .entry)) (now (second .entry)) ⌝ }
 {
-    row::compare(n, first, second)
+    compare::compare(n, first, second)
 }

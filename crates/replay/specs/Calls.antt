@@ -4,8 +4,8 @@ use mathlib.Core.List.{List, [], _∷_}
 use lib.ListN.{getD}
 use Rattle.judge.specs.declared.Answer.{Answer}
 use Rattle.judge.specs.declared.Answer.the-variants.{Accepted, Refused}
-use Rattle.row.specs.declared.comparing.Comparison.{Comparison}
-use Rattle.row.specs.declared.comparing.Comparison.the-variants as comparison
+use Rattle.compare.specs.declared.Comparison.{Comparison}
+use Rattle.compare.specs.declared.Comparison.the-variants as comparison
 use Rattle.replay.specs.declared.calls.Head.{Head}
 use Rattle.replay.specs.declared.calls.Reply.{Reply}
 

@@ -9,9 +9,9 @@
 //     7 compare    x = n           a the first row, b the second
 //
 // A call that is added has a line above, a number below, an arm in `called` and a function of its own.
+use compare::Comparison;
 use judge::Answer;
 use judge::wide;
-use row::Comparison;
 ghost use mathlib.Core.Path.{_≡_};
 ghost use Rattle.replay.specs.Calls.{headOf, plainReply, replyTo, replyCounts, replyWords};
 

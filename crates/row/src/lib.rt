@@ -1,9 +1,7 @@
-// Calls on rows: renumbering and comparing.
-mod comparing;
+// Renumbering a row.
 mod renumbering;
 mod standard;
 
-pub use comparing::Comparison;
-pub use comparing::compare;
+pub use renumbering::check_first;
 pub use renumbering::renumber;
 pub use standard::renumber_valid;

@@ -1,9 +1,9 @@
--- `row::comparing::counts_by` compares the standard rows, whose groups are those of the rows. Assumes nothing.
+-- `compare::counts_by` compares the standard rows, whose groups are those of the rows. Assumes nothing.
 use mathlib.Core.Path.{_∙_}
-use Rattle.row.proofs.CountLaws.{made-standard, made-compared}
+use Rattle.compare.proofs.CountLaws.{made-standard, made-compared}
 use borrow.Author.Needs.{needs}
-use Rattle.row.proofs.comparing.counts_by.Statement.{statement}
-use Rattle.row.proofs.comparing.counts_by.Tie as tie
+use Rattle.compare.proofs.counts_by.Statement.{statement}
+use Rattle.compare.proofs.counts_by.Tie as tie
 
 renumber-valid-requires : tie.Need-renumber-valid-requires
 renumber-valid-requires c κs = search needs

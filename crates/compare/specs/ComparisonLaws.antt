@@ -1,8 +1,8 @@
 -- Two answers of comparing with one verdict are the same answer. Assumes nothing.
 use mathlib.Core.Path.{_≡_, refl}
-use Rattle.row.specs.declared.comparing.Comparison.{Comparison}
-use Rattle.row.specs.declared.comparing.Comparison.the-variants.{Counted, Refused}
-use Rattle.row.specs.Comparisons.{comparison}
+use Rattle.compare.specs.declared.Comparison.{Comparison}
+use Rattle.compare.specs.declared.Comparison.the-variants.{Counted, Refused}
+use Rattle.compare.specs.Comparisons.{comparison}
 
 pub comparison-injective : (a b : Comparison) → comparison a ≡ comparison b → a ≡ b
 comparison-injective (Counted x y z) (Counted u v w) e = cc

@@ -1,14 +1,14 @@
--- `row::comparing::counts_valid` lends two tables, each with room for a row. Assumes nothing.
+-- `compare::counts_valid` lends two tables, each with room for a row. Assumes nothing.
 use Prim.Native.Nat.{ℕ}
 use mathlib.Core.Path.{_≡_, sym}
 use lib.ListN.{length, take, length-replicate}
 use Rattle.trees.specs.Lists.{zeros}
 use Rattle.trees.specs.Checks.{rowWords}
 use Rattle.trees.specs.Tables.{tableWords}
-use Rattle.row.proofs.CountLaws.{row-room}
+use Rattle.compare.proofs.CountLaws.{row-room}
 use borrow.Author.Needs.{needs}
-use Rattle.row.proofs.comparing.counts_valid.Statement.{statement}
-use Rattle.row.proofs.comparing.counts_valid.Tie as tie
+use Rattle.compare.proofs.counts_valid.Statement.{statement}
+use Rattle.compare.proofs.counts_valid.Tie as tie
 
 room : (st : tie.Start) → length (take (rowWords (st .args .n)) (zeros tableWords)) ≡ rowWords (st .args .n)
 room st = row-room _ (zeros tableWords) (length-replicate {A = ℕ} tableWords 0) (st .pre .0 .most)

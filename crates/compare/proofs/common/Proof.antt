@@ -1,10 +1,10 @@
--- `row::comparing::common` counts the inner nodes that have a mate: those whose group the other row holds. Assumes nothing.
+-- `compare::common` counts the inner nodes that have a mate: those whose group the other row holds. Assumes nothing.
 use mathlib.Core.Path.{_∙_}
 use denote.Ref.{now}
 use borrow.Author.Needs.{needs}
-use Rattle.row.proofs.CountLaws.{mates-held}
-use Rattle.row.proofs.comparing.common.Statement.{statement}
-use Rattle.row.proofs.comparing.common.Tie as tie
+use Rattle.compare.proofs.CountLaws.{mates-held}
+use Rattle.compare.proofs.common.Statement.{statement}
+use Rattle.compare.proofs.common.Tie as tie
 
 tables-requires : tie.Need-tables-requires
 tables-requires c κs = search needs

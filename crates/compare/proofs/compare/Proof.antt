@@ -1,4 +1,4 @@
--- `row::comparing::compare` passes a refusal of the first row on, moves the place of a refusal of the second, and counts else. Assumes nothing.
+-- `compare::compare` passes a refusal of the first row on, moves the place of a refusal of the second, and counts else. Assumes nothing.
 use mathlib.Core.Path.{_≡_, sym, ap, _∙_}
 use native.Mathlib.Omega.{arith}
 use denote.Ref.{now}
@@ -7,10 +7,11 @@ use Rattle.trees.specs.Valid.{Valid}
 use Rattle.trees.specs.RowCalls.{renumberChecks}
 use Rattle.trees.specs.RowCallLaws.{row-place}
 use Rattle.judge.specs.Verdicts.{verdict}
-use Rattle.row.proofs.AnswerLaws.{first-refused, first-valid, second-words, second-refused, both-accepted, second-valid}
+use Rattle.row.proofs.AnswerLaws.{first-valid, second-words}
+use Rattle.compare.proofs.AnswerLaws.{first-refused, second-refused, both-accepted, second-valid}
 use borrow.Author.Needs.{needs}
-use Rattle.row.proofs.comparing.compare.Statement.{statement}
-use Rattle.row.proofs.comparing.compare.Tie as tie
+use Rattle.compare.proofs.compare.Statement.{statement}
+use Rattle.compare.proofs.compare.Tie as tie
 
 -- checks 1, 3 and those of the first row are passed
 passed1 : (c : tie.After-enum-told) → let st = c .before .before .before .before .before in

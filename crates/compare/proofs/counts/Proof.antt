@@ -1,10 +1,10 @@
--- `row::comparing::counts` takes what both rows have from the nodes of each. Assumes nothing.
+-- `compare::counts` takes what both rows have from the nodes of each. Assumes nothing.
 use native.Mathlib.Omega.{arith}
 use denote.Ref.{now}
 use borrow.Author.Needs.{needs}
-use Rattle.row.proofs.CountLaws.{shared-first, shared-second, counts-compared}
-use Rattle.row.proofs.comparing.counts.Statement.{statement}
-use Rattle.row.proofs.comparing.counts.Tie as tie
+use Rattle.compare.proofs.CountLaws.{shared-first, shared-second, counts-compared}
+use Rattle.compare.proofs.counts.Statement.{statement}
+use Rattle.compare.proofs.counts.Tie as tie
 
 common-requires : tie.Need-common-requires
 common-requires c κs = search needs

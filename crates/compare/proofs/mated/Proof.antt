@@ -1,4 +1,4 @@
--- `row::comparing::mated` counts the nodes that have a mate: those found, and those among the nodes that are left, are all of them. Assumes nothing.
+-- `compare::mated` counts the nodes that have a mate: those found, and those among the nodes that are left, are all of them. Assumes nothing.
 use Prim.Native.Nat.{_-_, _<_}
 use mathlib.Core.Path.{ap}
 use mathlib.Core.Logic.{⊎-elim}
@@ -10,8 +10,8 @@ use borrow.Author.Tests.{eq-eqb, ne-eqb}
 use borrow.Author.Needs.{needs}
 use Rattle.trees.specs.Mates.{noMate}
 use Rattle.trees.specs.ScanLaws.{CountLeft, count-start, count-yes, count-no, count-end}
-use Rattle.row.proofs.comparing.mated.Statement.{statement}
-use Rattle.row.proofs.comparing.mated.Tie as tie
+use Rattle.compare.proofs.mated.Statement.{statement}
+use Rattle.compare.proofs.mated.Tie as tie
 
 abbrev Inv-loop : tie.InvT-loop
 Inv-loop n m mate found₀ v₀ found v = CountLeft (λ u. not (eqb (getD mate u 0) noMate)) n m found v

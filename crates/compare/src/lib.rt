@@ -12,12 +12,12 @@ ghost use Rattle.trees.specs.Comparing.{compared};
 ghost use Rattle.trees.specs.Tables.{tableWords};
 ghost use Rattle.trees.specs.Mates.{noMate};
 ghost use Rattle.trees.specs.RowCalls.{comparing};
-ghost use Rattle.row.specs.Comparisons.{comparison};
-use crate::renumbering::check_first;
-use crate::standard::renumber_valid;
+ghost use Rattle.compare.specs.Comparisons.{comparison};
 use judge::Answer;
 use passes::TABLE;
 use passes::Table;
+use row::check_first;
+use row::renumber_valid;
 
 // "three counts: groups in both rows, only in the first, only in the second", or a refusal.
 pub enum Comparison {
