@@ -12,10 +12,10 @@ use Rattle.runs.specs.Runs.{every}
 use Rattle.runs.specs.Calls.{opened, added, withdrawn, openChecks, addChecks, withdrawChecks}
 use Rattle.runs.specs.Histories.{Call, add, withdraw, called, answers, after, studyAfter}
 use Rattle.runs.specs.Reports.{reported, reportChecks}
-use Rattle.text.specs.Files.{fileSamples, fileRuns, fileOf}
-use Rattle.text.specs.FileLaws.{good-file}
-use Rattle.text.specs.declared.file.File.{File}
-use Rattle.text.specs.declared.file.File.the-variants.{Bad, Good}
+use Rattle.file.specs.Files.{fileSamples, fileRuns, fileOf}
+use Rattle.file.specs.FileLaws.{good-file}
+use Rattle.file.specs.declared.File.{File}
+use Rattle.file.specs.declared.File.the-variants.{Bad, Good}
 use Rattle.listing.specs.Listing.{Listed, tree, studyWords, unless, firstRefused, slotCall, reports, addsAndReports}
 use Rattle.listing.specs.Listing.{listedFile, listedOf, listed}
 

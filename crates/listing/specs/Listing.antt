@@ -7,10 +7,10 @@ use Rattle.trees.specs.Reporting.{majority}
 use Rattle.runs.specs.Calls.{opened}
 use Rattle.runs.specs.Histories.{Call, add, answers, after}
 use Rattle.runs.specs.Reports.{reported}
-use Rattle.text.specs.Files.{fileOf, slotIdentifier, slotRow}
+use Rattle.file.specs.Files.{fileOf, slotIdentifier, slotRow}
+use Rattle.file.specs.declared.File.{File}
+use Rattle.file.specs.declared.File.the-variants.{Bad, Good}
 use Rattle.text.specs.Lines.{refusalLine, treeLines}
-use Rattle.text.specs.declared.file.File.{File}
-use Rattle.text.specs.declared.file.File.the-variants.{Bad, Good}
 
 -- "It opens a study of 32,768 words"
 abbrev pub studyWords : ℕ

@@ -20,9 +20,9 @@ use Rattle.runs.specs.ReportLaws.{reported-rows, reported-standard, reported-le
 use Rattle.judge.specs.Verdicts.{verdict}
 use Rattle.judge.specs.declared.Answer.{Answer}
 use Rattle.judge.specs.declared.Answer.the-variants.{Accepted, Refused as Answer·Refused}
-use Rattle.text.specs.Files.{fileOf, fileBytes, wordAt, slotIdentifier}
+use Rattle.file.specs.Files.{fileOf, fileBytes, wordAt, slotIdentifier}
+use Rattle.file.specs.declared.File.the-variants.{Bad, Good}
 use Rattle.text.specs.Lines.{refusalLine, headLine, nodeLine, treeLines}
-use Rattle.text.specs.declared.file.File.the-variants.{Bad, Good}
 use Rattle.listing.specs.Listing.{Listed, refusal, studyWords, unless, firstRefused, slotCall, reports, addsAndReports}
 use Rattle.listing.specs.Listing.{listedFile, listedOf, listed, linesOf}
 use Rattle.listing.specs.Told.{toldOf, goesOn, Loaded, shows, rowRoom, Printable}

@@ -7,17 +7,17 @@ ghost use Rattle.trees.specs.Checks.{rowWords};
 ghost use Rattle.runs.specs.CallLaws.{Kept};
 ghost use Rattle.runs.specs.Histories.{called};
 ghost use Rattle.judge.specs.Verdicts.{verdict};
-ghost use Rattle.text.specs.Files.{fileBytes};
+ghost use Rattle.file.specs.Files.{fileBytes};
 ghost use Rattle.listing.specs.Listing.{studyWords, slotCall, reports, addsAndReports, listed};
 ghost use Rattle.listing.specs.Told.{toldOf, goesOn, Loaded, shows, rowRoom, Printable};
+use file::File;
+use file::file_of;
+use file::identifier_of;
+use file::row_into;
 use judge::Answer;
 use report::report_formed;
 use study::add_formed;
 use study::open;
-use text::File;
-use text::file_of;
-use text::identifier_of;
-use text::row_into;
 
 // "program: bad file"
 const BAD_FILE: usize = 15;

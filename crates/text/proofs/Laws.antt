@@ -1,12 +1,12 @@
--- What the loops keep that put a text into a buffer or words into a row. Assumes nothing.
+-- What the loops keep that put a text into a buffer. Assumes nothing.
 use Prim.Native.Nat.{ℕ, suc, _+_, _-_, _*_, _/_, _%_, _≤_, _<_}
 use mathlib.Core.Path.{_≡_, refl, sym, ap, _∙_}
 use mathlib.Core.List.{List, [], _∷_, _++_, map}
 use mathlib.Core.Bool.{Bool, true, false}
 use native.Mathlib.Omega.{arith}
 use native.Mathlib.Numerals.{add-one}
-use lib.ListN.{length, getD, take, drop, set, length-set}
-use lib.Seq.{sets, drop-cons, take-all, take-suc, take-suc-set}
+use lib.ListN.{length, getD, drop, set, length-set}
+use lib.Seq.{sets, drop-cons}
 use Rattle.trees.specs.Lists.{range, filter}
 use Rattle.text.specs.Decimal.{digit, decimal}
 use Rattle.text.specs.DecimalLaws.{decimal-small, decimal-step, decimal-longer, decimal-full}
@@ -110,21 +110,3 @@ module _ {x at i rest : ℕ} {out₀ out : List ℕ} (l : DigitsLeft x at out₀
       let e : decimal rest ≡ (digit rest ∷ []) = decimal-small rest h in
       let k : i ≡ at = omega (arith, l .place, ap length e) in
       record { bytes = rw k (rw e at (l .whole)); place = refl }
-
--- The first i words of a row are those that belong there.
-pub record Filled (target : List ℕ) (i : ℕ) (row : List ℕ) : Type 0 where
-  pub long : length row ≡ length target
-  pub front : take i row ≡ take i target
-
-pub filled-start : {target row : List ℕ} → length row ≡ length target → Filled target 0 row
-filled-start e = record { long = e; front = refl }
-
-module _ (target row : List ℕ) (i : ℕ) (l : Filled target i row) where
-  pub filled-next : (x : ℕ) → i < length target → x ≡ getD target i 0 → Filled target (i + 1) (set row i x)
-  filled-next x h e = record {
-    long = length-set row i x ∙ l .long;
-    front = rw (add-one, take-suc-set row i x (omega (arith, l .long)), take-suc target i 0 h, l .front, e);
-  }
-
-  pub filled-end : length target ≤ i → row ≡ target
-  filled-end h = sym (take-all i row (omega (arith, l .long))) ∙ l .front ∙ take-all i target h

@@ -1,11 +1,8 @@
-pub mod Ascii
 pub mod Decimal
-pub mod Files
 pub mod Lines
 pub mod Writing
 pub mod Marks
 pub mod DecimalLaws
-pub mod FileLaws
 pub mod LineLaws
 pub mod WritingLaws
 pub mod MarkLaws

@@ -7,7 +7,7 @@ use lib.ListN.{getD}
 use Rattle.trees.specs.Lists.{tabulate, range, filter}
 use Rattle.trees.specs.Groups.{Group, has}
 use Rattle.trees.specs.Rows.{nodes, parent, rootMark, groupAt}
-use Rattle.text.specs.Ascii.{ascii}
+use Rattle.file.specs.Ascii.{ascii}
 use Rattle.text.specs.Decimal.{decimal}
 
 abbrev pub space : ℕ

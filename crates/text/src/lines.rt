@@ -5,10 +5,10 @@ ghost use lib.ListN.{length};
 ghost use Rattle.text.specs.Decimal.{decimal};
 ghost use Rattle.text.specs.Lines.{lineOf, headLine, refusalLine};
 ghost use Rattle.text.specs.Writing.{Written, fieldBytes, lineBytes};
-use crate::file::VERSION;
 use crate::put::put_byte;
 use crate::put::put_bytes;
 use crate::put::put_fields;
+use file::VERSION;
 
 // A buffer of this many bytes holds any line.
 pub const LINE_BYTES: usize = 4096;

@@ -5,7 +5,7 @@ use native.Mathlib.Omega.{arith}
 use lib.ListN.{length}
 use denote.Ref.{now}
 use Rattle.trees.specs.Lists.{tabulate}
-use Rattle.text.specs.FileLaws.{bytes-order}
+use Rattle.file.specs.FileLaws.{bytes-order}
 use Rattle.runs.specs.CallLaws.{Kept}
 use Rattle.listing.specs.Listing.{studyWords, slotCall, addsAndReports}
 use Rattle.listing.specs.ListingLaws.{adds-end, adds-stops, adds-goes}

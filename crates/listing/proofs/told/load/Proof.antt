@@ -4,7 +4,7 @@ use native.Mathlib.Omega.{arith}
 use denote.Ref.{now}
 use Rattle.trees.specs.Lists.{tabulate}
 use Rattle.runs.specs.CallLaws.{Kept}
-use Rattle.text.specs.FileLaws.{good-length}
+use Rattle.file.specs.FileLaws.{good-length}
 use Rattle.listing.specs.Listing.{studyWords, slotCall, addsAndReports, listed}
 use Rattle.listing.specs.ListingLaws.{listed-bad, load-stops, load-goes}
 use borrow.Author.Needs.{needs}

@@ -1,13 +1,13 @@
--- `text::file::file_of` tells a bad file from a good one. Assumes nothing.
+-- `file::file_of` tells a bad file from a good one. Assumes nothing.
 use Prim.Native.Nat.{_≤_}
 use mathlib.Core.Path.{refl, sym, _∙_}
 use native.Mathlib.Omega.{arith}
 use lib.ListN.{length}
-use Rattle.text.specs.Files.{headBytes, fileOf}
-use Rattle.text.specs.FileLaws.{not-bad}
+use Rattle.file.specs.Files.{headBytes, fileOf}
+use Rattle.file.specs.FileLaws.{not-bad}
 use borrow.Author.Needs.{needs}
-use Rattle.text.proofs.file.file_of.Statement.{statement}
-use Rattle.text.proofs.file.file_of.Tie as tie
+use Rattle.file.proofs.file_of.Statement.{statement}
+use Rattle.file.proofs.file_of.Tie as tie
 
 is-bad-requires : tie.Need-is-bad-requires
 is-bad-requires c κs = search needs

@@ -1,13 +1,13 @@
--- `text::file::begins` compares byte by byte: what is left of the text decides. Assumes nothing.
+-- `file::begins` compares byte by byte: what is left of the text decides. Assumes nothing.
 use Prim.Native.Nat.{_-_, _≤_}
 use mathlib.Core.Path.{_≡_, refl, sym, _∙_}
 use native.Mathlib.Numerals.{add-one}
 use lib.ListN.{length, drop, drop-of-length-le}
-use Rattle.text.specs.Files.{begins}
-use Rattle.text.specs.FileLaws.{begins-pass, begins-stop, begins-none}
+use Rattle.file.specs.Files.{begins}
+use Rattle.file.specs.FileLaws.{begins-pass, begins-stop, begins-none}
 use borrow.Author.Needs.{needs}
-use Rattle.text.proofs.file.begins.Statement.{statement}
-use Rattle.text.proofs.file.begins.Tie as tie
+use Rattle.file.proofs.begins.Statement.{statement}
+use Rattle.file.proofs.begins.Tie as tie
 
 abbrev Inv-loop : tie.InvT-loop
 Inv-loop text bytes i₀ i = (i ≤ length text) × (begins text bytes ≡ begins (drop i text) (drop i bytes))

@@ -1,15 +1,15 @@
--- `text::file::row_into` reads the words of a slot's row: those that are left decide. Assumes nothing.
+-- `file::row_into` reads the words of a slot's row: those that are left decide. Assumes nothing.
 use Prim.Native.Nat.{_+_, _-_, _*_, _≤_}
 use mathlib.Core.Path.{_≡_, sym, _∙_}
 use native.Mathlib.Omega.{arith}
 use lib.ListN.{length}
 use Rattle.trees.specs.Checks.{rowWords}
-use Rattle.text.specs.Files.{slotRow}
-use Rattle.text.specs.FileLaws.{bytes-next, slot-fits, length-slot, slot-word}
-use Rattle.text.proofs.Laws.{Filled, filled-start, filled-next, filled-end}
+use Rattle.file.specs.Files.{slotRow}
+use Rattle.file.specs.FileLaws.{bytes-next, slot-fits, length-slot, slot-word}
+use Rattle.file.proofs.Laws.{Filled, filled-start, filled-next, filled-end}
 use borrow.Author.Needs.{needs}
-use Rattle.text.proofs.file.row_into.Statement.{statement}
-use Rattle.text.proofs.file.row_into.Tie as tie
+use Rattle.file.proofs.row_into.Statement.{statement}
+use Rattle.file.proofs.row_into.Tie as tie
 
 abbrev Inv-loop : tie.InvT-loop
 Inv-loop bytes n j row₀ at i₀ row i = (i ≤ rowWords n) × Filled (slotRow bytes n j) i row

@@ -1,14 +1,14 @@
--- `text::file::is_bad` answers refusal 15. Assumes nothing.
+-- `file::is_bad` answers refusal 15. Assumes nothing.
 use Prim.Native.Nat.{_≤_}
 use mathlib.Core.Path.{refl, sym}
 use native.Mathlib.Omega.{arith}
 use lib.ListN.{length}
 use Rattle.trees.specs.CheckLaws.{outside-not}
-use Rattle.text.specs.Files.{headBytes, mostBytes}
-use Rattle.text.specs.FileLaws.{bad-far, bad-near}
+use Rattle.file.specs.Files.{headBytes, mostBytes}
+use Rattle.file.specs.FileLaws.{bad-far, bad-near}
 use borrow.Author.Needs.{needs}
-use Rattle.text.proofs.file.is_bad.Statement.{statement}
-use Rattle.text.proofs.file.is_bad.Tie as tie
+use Rattle.file.proofs.is_bad.Statement.{statement}
+use Rattle.file.proofs.is_bad.Tie as tie
 
 -- past the first test the header is there
 near : (c : tie.Else1) → headBytes ≤ length (c .before .before .args .bytes .now)

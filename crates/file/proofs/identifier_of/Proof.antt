@@ -1,11 +1,11 @@
--- `text::file::identifier_of` reads the first word of a slot. Assumes nothing.
+-- `file::identifier_of` reads the first word of a slot. Assumes nothing.
 use native.Mathlib.Omega.{arith}
 use lib.ListN.{length}
-use Rattle.text.specs.Files.{slotIdentifier}
-use Rattle.text.specs.FileLaws.{bytes-next, slot-fits}
+use Rattle.file.specs.Files.{slotIdentifier}
+use Rattle.file.specs.FileLaws.{bytes-next, slot-fits}
 use borrow.Author.Needs.{needs}
-use Rattle.text.proofs.file.identifier_of.Statement.{statement}
-use Rattle.text.proofs.file.identifier_of.Tie as tie
+use Rattle.file.proofs.identifier_of.Statement.{statement}
+use Rattle.file.proofs.identifier_of.Tie as tie
 
 file-bytes-requires : tie.Need-file-bytes-requires
 file-bytes-requires c κs = let a = c .before .args in slot-fits (a .n) (a .j) (length (a .bytes .now)) (search needs) (search needs)

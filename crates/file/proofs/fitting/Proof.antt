@@ -1,9 +1,9 @@
--- `text::file::fitting` compares the length with what n and k ask. Assumes nothing.
+-- `file::fitting` compares the length with what n and k ask. Assumes nothing.
 use mathlib.Core.Path.{refl}
-use Rattle.text.specs.FileLaws.{bytes-fit}
+use Rattle.file.specs.FileLaws.{bytes-fit}
 use borrow.Author.Needs.{needs}
-use Rattle.text.proofs.file.fitting.Statement.{statement}
-use Rattle.text.proofs.file.fitting.Tie as tie
+use Rattle.file.proofs.fitting.Statement.{statement}
+use Rattle.file.proofs.fitting.Tie as tie
 
 word-at-requires : tie.Need-word-at-requires
 word-at-requires c κs = search needs

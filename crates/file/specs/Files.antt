@@ -6,9 +6,9 @@ use lib.Dec.{eqb}
 use lib.ListN.{length, getD}
 use Rattle.trees.specs.Lists.{tabulate}
 use Rattle.trees.specs.Checks.{rowWords, outside}
-use Rattle.text.specs.Ascii.{ascii}
-use Rattle.text.specs.declared.file.File.{File}
-use Rattle.text.specs.declared.file.File.the-variants.{Bad, Good}
+use Rattle.file.specs.Ascii.{ascii}
+use Rattle.file.specs.declared.File.{File}
+use Rattle.file.specs.declared.File.the-variants.{Bad, Good}
 
 -- "16-bit numbers, low byte first"
 unfoldable pub wordAt : List ℕ → ℕ → ℕ

@@ -1,10 +1,10 @@
--- `text::file::file_bytes` works the bytes out without loss. Assumes nothing.
+-- `file::file_bytes` works the bytes out without loss. Assumes nothing.
 use native.Mathlib.Omega.{arith}
-use Rattle.text.specs.Files.{fileBytes}
-use Rattle.text.specs.FileLaws.{factor-below}
+use Rattle.file.specs.Files.{fileBytes}
+use Rattle.file.specs.FileLaws.{factor-below}
 use borrow.Author.Needs.{needs}
-use Rattle.text.proofs.file.file_bytes.Statement.{statement}
-use Rattle.text.proofs.file.file_bytes.Tie as tie
+use Rattle.file.proofs.file_bytes.Statement.{statement}
+use Rattle.file.proofs.file_bytes.Tie as tie
 
 mul-result : tie.Need-mul-result
 mul-result c = omega (arith, factor-below (c .args .n) (c .args .k))

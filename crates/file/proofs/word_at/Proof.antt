@@ -1,9 +1,9 @@
--- `text::file::word_at` puts two bytes together. Assumes nothing.
+-- `file::word_at` puts two bytes together. Assumes nothing.
 use native.Mathlib.Numerals.{add-one}
-use Rattle.text.specs.Files.{wordAt}
+use Rattle.file.specs.Files.{wordAt}
 use borrow.Author.Needs.{needs}
-use Rattle.text.proofs.file.word_at.Statement.{statement}
-use Rattle.text.proofs.file.word_at.Tie as tie
+use Rattle.file.proofs.word_at.Statement.{statement}
+use Rattle.file.proofs.word_at.Tie as tie
 
 shared-slice-read-wide-byte : tie.Need-shared-slice-read-wide-byte
 shared-slice-read-wide-byte c = search needs

@@ -4,7 +4,7 @@ ghost use Prim.Native.Nat.{_+_, _*_, _^_, _<_, _≤_};
 ghost use lib.Dec.{eqb};
 ghost use lib.ListN.{length};
 ghost use Rattle.trees.specs.Checks.{rowWords};
-ghost use Rattle.text.specs.Files.{wordAt, fileSamples, fileRuns, headBytes, fileBytes, begins, badFile, fileOf, slotIdentifier, slotRow};
+ghost use Rattle.file.specs.Files.{wordAt, fileSamples, fileRuns, headBytes, fileBytes, begins, badFile, fileOf, slotIdentifier, slotRow};
 use judge::wide;
 
 // "the mark ARB, then as 16-bit numbers, low byte first, version 1, n, k"

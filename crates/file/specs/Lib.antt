@@ -1,0 +1,4 @@
+pub mod Ascii
+pub mod Files
+pub mod FileLaws
+pub mod Specimen
