@@ -14,7 +14,7 @@ use Rattle.trees.specs.Checks.{Verdict, accepted, refused, Check, _⊳_, fewest
 use Rattle.trees.specs.Valid.{Valid, isAccepted}
 use Rattle.trees.specs.Numbering.{renumbered}
 use Rattle.trees.specs.ChainLaws.{chain-append, chain-go, Passed, passed-chain, chain-passed, passed-append, passed-split}
-use Rattle.trees.specs.ChainLaws.{isRising, numbers, Exactly, refused-exactly, line-passes, line-pass}
+use Rattle.trees.specs.ChainLaws.{numbers, Exactly, accepted-other, refused-exactly, line-passes, line-pass}
 use Rattle.trees.specs.OutcomeLaws.{outcome-refused, outcome-accepted}
 use Rattle.trees.specs.CheckLaws.{not-outside}
 use Rattle.trees.specs.ValidLaws.{judged-valid, valid-row}
@@ -91,18 +91,15 @@ module _ (w : List ℕ) (i : ℕ) (row : List ℕ) where
   unfolding added
   added-accepts = (λ e. adds-to (chain-passed (addChecks w i row) e), λ a. passed-chain (addChecks w i row) accepted (adds-from a))
 
+  -- the order of its checks
   pub added-numbers : numbers (addChecks w i row) ≡ (2 ∷ 3 ∷ 4 ∷ 5 ∷ 6 ∷ 7 ∷ 8 ∷ 9 ∷ 10 ∷ 11 ∷ 12 ∷ [])
   unfolding addChecks addFormedChecks rowChecks
   added-numbers = refl
 
-  pub added-rising : isRising (numbers (addChecks w i row)) ≡ true
-  unfolding isRising
-  added-rising = ap isRising added-numbers
-
-  -- DEMAND 1 of adding
+  -- DEMAND 1 of adding (RULES D1)
   pub added-exactly : (k p : ℕ) → (added w i row .verdict ≡ refused k p) ↔ Exactly k p (addChecks w i row)
   unfolding added
-  added-exactly = refused-exactly (addChecks w i row) added-rising
+  added-exactly = refused-exactly (addChecks w i row) accepted accepted-other
 
   pub added-unchanged : (k p : ℕ) → added w i row .verdict ≡ refused k p → added w i row .words ≡ w
   unfolding added

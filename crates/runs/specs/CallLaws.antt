@@ -9,7 +9,7 @@ use lib.ListN.{length}
 use borrow.Author.Tests.{ltb-false, le-ltb}
 use Rattle.trees.specs.Checks.{accepted, refused, _⊳_, fewestSamples, mostSamples, outside, check1}
 use Rattle.trees.specs.Reporting.{Run}
-use Rattle.trees.specs.ChainLaws.{passed-chain, chain-passed, isRising, Exactly, refused-exactly, line-passes, line-pass}
+use Rattle.trees.specs.ChainLaws.{passed-chain, chain-passed, numbers, Exactly, accepted-other, refused-exactly, line-passes, line-pass}
 use Rattle.trees.specs.OutcomeLaws.{outcome-refused, outcome-accepted}
 use Rattle.trees.specs.CheckLaws.{outside-not, not-outside}
 use Rattle.runs.specs.Words.{samples, runs, encode, capacity}
@@ -56,10 +56,15 @@ module _ (n : ℕ) (w : List ℕ) where
         (line-pass 3 (ltb (capacity (length w) n) 1) (le-ltb (capacity (length w) n) 1 (o .one)), tt),
       )
 
-  -- DEMAND 1 of opening
+  -- the order of its checks
+  pub opened-numbers : numbers (openChecks n w) ≡ (1 ∷ 3 ∷ [])
+  unfolding openChecks
+  opened-numbers = refl
+
+  -- DEMAND 1 of opening (RULES D1)
   pub opened-exactly : (k p : ℕ) → (opened n w .verdict ≡ refused k p) ↔ Exactly k p (openChecks n w)
-  unfolding opened openChecks isRising
-  opened-exactly = refused-exactly (openChecks n w) refl
+  unfolding opened
+  opened-exactly = refused-exactly (openChecks n w) accepted accepted-other
 
   pub opened-unchanged : (k p : ℕ) → opened n w .verdict ≡ refused k p → opened n w .words ≡ w
   unfolding opened

@@ -3,32 +3,45 @@ use Prim.Native.Nat.{ℕ, zero, suc, _+_, _*_, _≤_, _<_}
 use mathlib.Core.Path.{_≡_, refl, ap, _∙_}
 use mathlib.Core.Logic.{_↔_}
 use mathlib.Core.List.{List, [], _∷_, List·Memᴰ·head}
-use mathlib.Core.Bool.{Bool, true, false, cond}
+use mathlib.Core.Bool.{Bool, true, false, not, cond}
 use native.Mathlib.Omega.{arith}
 use lib.Dec.{eqb, ltb}
 use lib.ListN.{length, getD}
-use borrow.Author.Tests.{eqb-false, not-false}
+use borrow.Author.Tests.{eqb-false, ne-eqb, not-false}
 use Rattle.trees.specs.Lists.{weigh}
 use Rattle.trees.specs.Groups.{Group, member}
 use Rattle.trees.specs.Rows.{nodes, groupAt, groups, holds}
-use Rattle.trees.specs.Checks.{Verdict, accepted, refused, rowWords}
+use Rattle.trees.specs.Checks.{Verdict, accepted, refused, _⊳_, rowWords}
 use Rattle.trees.specs.Valid.{Standard, isAccepted}
 use Rattle.trees.specs.Reporting.{Run, Rule, majority, support, agreed, supports}
-use Rattle.trees.specs.ChainLaws.{isRising, Exactly, refused-exactly, chain-passed, line-passes}
+use Rattle.trees.specs.ChainLaws.{numbers, Exactly, accepted-other, refused-exactly, passed-chain, chain-passed, line-passes, line-pass}
+use Rattle.trees.specs.RowCallLaws.{both-lengths, both-fit}
 use Rattle.trees.specs.NumberingLaws.{standard-unique}
 use Rattle.trees.specs.ReportingLaws.{Runs, Sound, total-length, majority-sound, majority-standard, majority-groups}
 use Rattle.trees.specs.ReportingLaws.{majority-supports, supports-length, supports-first, supports-node, supports-filler}
 use Rattle.runs.specs.Words.{samples, inForce, runs}
 use Rattle.runs.specs.Formed.{wellFormed, Formed}
 use Rattle.runs.specs.WordLaws.{length-runs}
-use Rattle.runs.specs.FormedLaws.{formed-to, formed-valid}
+use Rattle.runs.specs.FormedLaws.{formed-to, formed-from, formed-valid}
 use Rattle.runs.specs.Reports.{reportFormedChecks, reportChecks, reported}
 
+-- what reporting asks for
+pub record Reportable (w a s : List ℕ) : Type 0 where
+  pub formed : Formed w
+  pub agreedWords : length a ≡ rowWords (samples w)
+  pub supportWords : length s ≡ rowWords (samples w)
+  pub some : 0 < inForce w
+
 module _ (rule : Rule) (w a s : List ℕ) where
-  -- DEMAND 1: a number is given exactly when its line applies and no line of a smaller number does
+  -- the order of its checks
+  pub reported-numbers : numbers (reportChecks w a s) ≡ (2 ∷ 3 ∷ 14 ∷ [])
+  unfolding reportChecks reportFormedChecks
+  reported-numbers = refl
+
+  -- DEMAND 1 of reporting (RULES D1)
   pub reported-exactly : (k p : ℕ) → (reported rule w a s .verdict ≡ refused k p) ↔ Exactly k p (reportChecks w a s)
-  unfolding reported reportChecks reportFormedChecks isRising
-  reported-exactly = refused-exactly (reportChecks w a s) refl
+  unfolding reported
+  reported-exactly = refused-exactly (reportChecks w a s) accepted accepted-other
 
   -- and neither buffer differs then
   pub reported-refused : (k p : ℕ) → reported rule w a s .verdict ≡ refused k p → (reported rule w a s .agreedRow ≡ a) × (reported rule w a s .supportRow ≡ s)
@@ -47,17 +60,35 @@ module _ (rule : Rule) (w a s : List ℕ) where
     ap (λ (v : Verdict). cond (isAccepted v) (supports rule (samples w) (runs w)) s) e,
   )
 
+  -- it is accepted exactly if the study is well formed, both buffers have 2n words and a run is in force
+  pub reported-accepts : (reported rule w a s .verdict ≡ accepted) ↔ Reportable w a s
+  unfolding reported reportChecks reportFormedChecks
+  reported-accepts = (to, from)
+    where
+      to : reportChecks w a s ⊳ accepted ≡ accepted → Reportable w a s
+      to e =
+          let h = chain-passed (reportChecks w a s) e in
+          let l = both-lengths (samples w) a s (h .1 .0) in
+          let none = eqb-false (inForce w) 0 (line-passes 14 (eqb (inForce w) 0) (h .1 .1 .0)) in
+          record {
+            formed = formed-to w (not-false (wellFormed w) (line-passes 2 _ (h .0)));
+            agreedWords = l .0;
+            supportWords = l .1;
+            some = omega arith;
+          }
+
+      from : Reportable w a s → reportChecks w a s ⊳ accepted ≡ accepted
+      from t = passed-chain (reportChecks w a s) accepted (
+        line-pass 2 (not (wellFormed w)) (ap not (formed-from w (t .formed))),
+        (
+          both-fit (samples w) a s (t .agreedWords) (t .supportWords),
+          (line-pass 14 (eqb (inForce w) 0) (ne-eqb (inForce w) 0 (λ e. omega (arith, t .some))), tt),
+        ),
+      )
+
   -- then the study is well formed, and has a run in force
   pub reported-formed : reported rule w a s .verdict ≡ accepted → Formed w × (0 < inForce w)
-  unfolding reported reportChecks reportFormedChecks
-  reported-formed e =
-      let h = chain-passed (reportChecks w a s) e in
-      let none = eqb-false (inForce w) 0 (line-passes 14 (eqb (inForce w) 0) (h .1 .1 .0)) in
-      (formed-to w (not-false (wellFormed w) (line-passes 2 _ (h .0))), some (inForce w) none)
-    where
-      some : (k : ℕ) → (k ≡ 0 → ⊥) → 0 < k
-      some zero x = absurd (x refl)
-      some (suc k) x = omega arith
+  reported-formed e = let t = reported-accepts .0 e in (t .formed, t .some)
 
 -- ---- DEMAND 2, of what an accepted report leaves
 

@@ -2,7 +2,7 @@
 use Prim.Native.Nat.{ℕ, _<_}
 use mathlib.Core.Path.{_≡_, refl, sym, ap, _∙_}
 use mathlib.Core.Logic.{_↔_}
-use mathlib.Core.List.{List, [], _∷_, List·Memᴰ, List·Memᴰ·head, List·Memᴰ·tail, Memᴰ·append-right}
+use mathlib.Core.List.{List, [], _∷_, _++_}
 use mathlib.Core.Option.{Option, some, none}
 use mathlib.Core.Bool.{true, not, cond}
 use native.Mathlib.Omega.{arith}
@@ -10,20 +10,20 @@ use lib.Dec.{eqb}
 use lib.ListN.{length}
 use borrow.Author.Tests.{eqb-false, eq-eqb, ne-eqb, not-false}
 use Rattle.trees.specs.Lists.{nowhere, at}
-use Rattle.trees.specs.Checks.{accepted, refused, _⊳_, rowChecks, judged}
+use Rattle.trees.specs.Checks.{accepted, refused, Check, _⊳_, check3, rowChecks, judged}
 use Rattle.trees.specs.Reporting.{Run}
-use Rattle.trees.specs.ChainLaws.{chain-go, Passed, passed-chain, chain-passed, isRising, numbers, Exactly, refused-exactly, exactly-at, line-passes, line-pass}
+use Rattle.trees.specs.ChainLaws.{chain-go, Passed, passed-chain, chain-passed, chain-given, numbers, Exactly, accepted-other, refused-exactly, lacks, given-alone, line-passes, line-pass}
 use Rattle.trees.specs.OutcomeLaws.{outcome-refused, outcome-accepted}
 use Rattle.trees.specs.ValidLaws.{judged-valid}
 use Rattle.runs.specs.Runs.{find, isSome, present, deleteRun}
 use Rattle.runs.specs.Words.{samples, inForce, runs, encode, capacity, full}
 use Rattle.runs.specs.Formed.{wellFormed, Formed}
-use Rattle.runs.specs.Calls.{check2, check12, addFormedChecks, addChecks, added, withdrawFormedChecks, withdrawChecks, withdrawn}
+use Rattle.runs.specs.Calls.{check2, check4, check11, check12, addFormedChecks, addChecks, added, withdrawFormedChecks, withdrawChecks, withdrawn}
 use Rattle.runs.specs.RunLaws.{Absent, find-delete, delete-rising, length-delete, delete-member, present-some}
 use Rattle.runs.specs.WordLaws.{room-exactly, length-runs}
 use Rattle.runs.specs.FormedLaws.{formed-to, formed-from, Room, room-runs}
 use Rattle.runs.specs.CallLaws.{Kept, room-kept}
-use Rattle.runs.specs.AddLaws.{added-accepts, added-rising, added-exactly}
+use Rattle.runs.specs.AddLaws.{added-accepts}
 
 -- what withdrawing asks for
 pub record Withdraws (w : List ℕ) (i : ℕ) : Type 0 where
@@ -56,14 +56,15 @@ module _ (w : List ℕ) (i : ℕ) where
   unfolding withdrawn
   withdrawn-accepts = (λ e. withdraws-to (chain-passed (withdrawChecks w i) e), λ a. passed-chain (withdrawChecks w i) accepted (withdraws-from a))
 
+  -- the order of its checks
   pub withdrawn-numbers : numbers (withdrawChecks w i) ≡ (2 ∷ 4 ∷ 13 ∷ [])
   unfolding withdrawChecks withdrawFormedChecks
   withdrawn-numbers = refl
 
-  -- DEMAND 1 of withdrawing
+  -- DEMAND 1 of withdrawing (RULES D1)
   pub withdrawn-exactly : (k p : ℕ) → (withdrawn w i .verdict ≡ refused k p) ↔ Exactly k p (withdrawChecks w i)
-  unfolding withdrawn isRising
-  withdrawn-exactly = refused-exactly (withdrawChecks w i) (ap isRising withdrawn-numbers)
+  unfolding withdrawn
+  withdrawn-exactly = refused-exactly (withdrawChecks w i) accepted accepted-other
 
   pub withdrawn-unchanged : (k p : ℕ) → withdrawn w i .verdict ≡ refused k p → withdrawn w i .words ≡ w
   unfolding withdrawn
@@ -110,16 +111,17 @@ module _ (w : List ℕ) (i : ℕ) (e : withdrawn w i .verdict ≡ accepted) wher
       let c : capacity (length v) (samples v) ≡ capacity (length w) (samples w) = rw (q, k .size, k .same) in
       omega (arith, length-delete i (runs w) (a .found .0) (a .found .1), length-runs v, length-runs w, a .formed .fits)
 
-  listed12 : (v : List ℕ) (j : ℕ) (row : List ℕ) → List·Memᴰ (check12 v) (addChecks v j row)
-  unfolding addChecks addFormedChecks
-  listed12 v j row = List·Memᴰ·tail (List·Memᴰ·tail (List·Memᴰ·tail (Memᴰ·append-right (rowChecks (samples v) row) (List·Memᴰ·tail (List·Memᴰ·head refl)))))
+  given12 : (v : List ℕ) (j : ℕ) (row : List ℕ) (p : ℕ) → added v j row .verdict ≡ refused 12 p → check12 v .fault ≡ at p
+  unfolding added addChecks addFormedChecks rowChecks lacks
+  given12 v j row p q =
+      let front : List Check = check2 v ∷ check3 (samples v) row ∷ check4 j ∷ (rowChecks (samples v) row ++ (check11 v j ∷ [])) in
+      given-alone front (check12 v) [] 12 p refl refl (chain-given (addChecks v j row) accepted 12 p (accepted-other 12 p) q) .1
 
   -- after an accepted withdrawal no add is refused for want of room
   pub withdrawn-frees : (j : ℕ) (row : List ℕ) (p : ℕ) → added (withdrawn w i .words) j row .verdict ≡ refused 12 p → ⊥
   withdrawn-frees j row p q =
       let v : List ℕ = withdrawn w i .words in
-      let x = added-exactly v j row 12 p .0 q in
-      let f : check12 v .fault ≡ at p = exactly-at (addChecks v j row) 12 p (added-rising v j row) x (check12 v) (listed12 v j row) refl in
+      let f : check12 v .fault ≡ at p = given12 v j row p q in
       let g : check12 v .fault ≡ nowhere = line-pass 12 (full v) (room-exactly v (omega (arith, frees v refl)) .1 (frees v refl)) in
       let z : _≡_ {A = ℕ} 0 1 = cc (sym f ∙ g) in
       omega arith

@@ -1,14 +1,14 @@
--- A chain of checks gives a number exactly when its check applies and no earlier one does. Assumes nothing.
-use Prim.Native.Nat.{ℕ, _<_}
+-- A chain of checks gives a number exactly when its check applies and every check before it passes, for any list of checks. Assumes nothing.
+use Prim.Native.Nat.{ℕ}
 use mathlib.Core.Path.{_≡_, refl, sym, ap, _∙_}
 use mathlib.Core.Logic.{_↔_}
-use mathlib.Core.List.{List, [], _∷_, _++_, map, List·Memᴰ, List·Memᴰ·head, List·Memᴰ·tail}
-use mathlib.Core.Bool.{Bool, true, false, _&&_}
+use mathlib.Core.List.{List, [], _∷_, _++_, map}
+use mathlib.Core.Bool.{Bool, true, false, _&&_, not}
 use native.Mathlib.Omega.{arith}
-use lib.Dec.{ltb}
-use borrow.Author.Tests.{ltb-true}
+use lib.Dec.{eqb}
+use borrow.Author.Tests.{eqb-false, not-true}
 use Rattle.trees.specs.Lists.{Place, nowhere, at, range}
-use Rattle.trees.specs.Checks.{Verdict, accepted, refused, Check, line, lineAt, orElse, _⊳_, asked}
+use Rattle.trees.specs.Checks.{Verdict, accepted, refused, counted, Check, line, lineAt, orElse, _⊳_, asked}
 use Rattle.trees.specs.BoolLaws.{and-l, and-r}
 use Rattle.trees.specs.ListLaws.{Lowest, first-lowest, lowest-first}
 
@@ -59,15 +59,28 @@ unfolding _⊳_
 passed-chain [] v h = refl
 passed-chain (c ∷ cs) v h = rw (h .0) (passed-chain cs v (h .1))
 
-pub chain-passed : (cs : List Check) → cs ⊳ accepted ≡ accepted → Passed cs
+-- a verdict that is no refusal
+abbrev pub Unrefused : Verdict → Type 0
+Unrefused v = (k p : ℕ) → v ≡ refused k p → ⊥
+
+pub accepted-other : Unrefused accepted
+accepted-other k p e = let z : _≡_ {A = ℕ} 0 1 = cc in omega arith
+
+pub counted-other : (a b c : ℕ) → Unrefused (counted a b c)
+counted-other a b c k p e = let z : _≡_ {A = ℕ} 0 1 = cc in omega arith
+
+-- what gives no refusal passes
+pub unrefused-passed : (cs : List Check) (v : Verdict) → Unrefused (cs ⊳ v) → Passed cs
 unfolding _⊳_
-chain-passed [] e = tt
-chain-passed (c ∷ cs) e = go (c .fault) refl e (λ q. chain-passed cs q)
+unrefused-passed [] v x = tt
+unrefused-passed (c ∷ cs) v x = go (c .fault) refl x (unrefused-passed cs v)
   where
-    go : (f : Place) → c .fault ≡ f → orElse (c .number) f (cs ⊳ accepted) ≡ accepted → (cs ⊳ accepted ≡ accepted → Passed cs)
-        → (c .fault ≡ nowhere) × Passed cs
-    go nowhere p q r = (p, r q)
-    go (at i) p q r = let z : _≡_ {A = ℕ} 0 1 = cc in absurd (omega arith)
+    go : (f : Place) → c .fault ≡ f → Unrefused (orElse (c .number) f (cs ⊳ v)) → (Unrefused (cs ⊳ v) → Passed cs) → (c .fault ≡ nowhere) × Passed cs
+    go nowhere p y r = (p, r y)
+    go (at i) p y r = absurd (y (c .number) i refl)
+
+pub chain-passed : (cs : List Check) → cs ⊳ accepted ≡ accepted → Passed cs
+chain-passed cs e = unrefused-passed cs accepted (λ k p q. accepted-other k p (sym e ∙ q))
 
 -- ---- refusal: one check applies, and every earlier one passes
 
@@ -89,83 +102,83 @@ unfolding _⊳_
 given-chain (c ∷ cs) v k p (here a b) = rw (b, a)
 given-chain (c ∷ cs) v k p (later a g) = rw a (given-chain cs v k p g)
 
--- ---- in a chain of rising numbers the earlier checks are those with smaller numbers
+-- ---- the same, of the list as a whole
 
-unfoldable pub isRising : List ℕ → Bool
-isRising [] = true
-isRising (a ∷ []) = true
-isRising (a ∷ b ∷ xs) = ltb a b && isRising (b ∷ xs)
+-- Number k is given at p: a check of the list has this number and applies there, and every check that stands before it passes.
+pub record Exactly (k p : ℕ) (cs : List Check) : Type 0 where
+  pub before : List Check
+  pub check : Check
+  pub rest : List Check
+  pub stands : cs ≡ before ++ (check ∷ rest)
+  pub number : check .number ≡ k
+  pub applies : check .fault ≡ at p
+  pub earlier : Passed before
+
+given-exactly : (cs : List Check) (k p : ℕ) → Given k p cs → Exactly k p cs
+given-exactly (c ∷ cs) k p (here a b) = record { before = []; check = c; rest = cs; stands = refl; number = a; applies = b; earlier = tt }
+given-exactly (c ∷ cs) k p (later a g) =
+    let w = given-exactly cs k p g in
+    record {
+      before = c ∷ w .before;
+      check = w .check;
+      rest = w .rest;
+      stands = ap (λ (ds : List Check). c ∷ ds) (w .stands);
+      number = w .number;
+      applies = w .applies;
+      earlier = (a, w .earlier);
+    }
+
+exactly-given : (bs : List Check) (c : Check) (ds : List Check) (k p : ℕ) → c .number ≡ k → c .fault ≡ at p → Passed bs → Given k p (bs ++ (c ∷ ds))
+exactly-given [] c ds k p a f h = here a f
+exactly-given (b ∷ bs) c ds k p a f h = later (h .0) (exactly-given bs c ds k p a f (h .1))
+
+-- THE CHAIN LAW (RULES D1), for any list of checks: a number is given exactly when its check applies and every check that stands before it passes
+pub refused-exactly : (cs : List Check) (v : Verdict) → Unrefused v → (k p : ℕ) → (cs ⊳ v ≡ refused k p) ↔ Exactly k p cs
+refused-exactly cs v x k p = (
+  λ q. given-exactly cs k p (chain-given cs v k p (x k p) q),
+  λ w. given-chain cs v k p (rw (w .stands) (exactly-given (w .before) (w .check) (w .rest) k p (w .number) (w .applies) (w .earlier))),
+)
+
+-- ---- what holds of a chain's verdict
+
+-- what holds of every refusal that the checks can give, and of v, holds of the verdict
+pub chain-holds : (P : Verdict → Type 0) (cs : List Check) (v : Verdict) → ((k p : ℕ) → Given k p cs → P (refused k p)) → P v → P (cs ⊳ v)
+unfolding _⊳_
+chain-holds P [] v h y = y
+chain-holds P (c ∷ cs) v h y = go (c .fault) refl (λ q. chain-holds P cs v (λ k p g. h k p (later q g)) y)
+  where
+    go : (f : Place) → c .fault ≡ f → (c .fault ≡ nowhere → P (cs ⊳ v)) → P (orElse (c .number) f (cs ⊳ v))
+    go nowhere q r = r q
+    go (at i) q r = h (c .number) i (here refl q)
+
+-- ---- the numbers of a list
 
 abbrev pub numbers : List Check → List ℕ
 numbers cs = map (λ c. c .number) cs
 
-rising-tail : (c : Check) (cs : List Check) → isRising (numbers (c ∷ cs)) ≡ true → isRising (numbers cs) ≡ true
-unfolding isRising
-rising-tail c [] e = refl
-rising-tail c (d ∷ cs) e = and-r (ltb (c .number) (d .number)) _ e
+-- whether no check has number k
+unfoldable pub lacks : ℕ → List Check → Bool
+lacks k [] = true
+lacks k (c ∷ cs) = not (eqb (c .number) k) && lacks k cs
 
-rising-less : (c : Check) (cs : List Check) → isRising (numbers (c ∷ cs)) ≡ true → (d : Check) → List·Memᴰ d cs → c .number < d .number
-unfolding isRising
-rising-less c (d ∷ cs) e x (List·Memᴰ·head q) = rw q (ltb-true (c .number) (d .number) (and-l _ (isRising (numbers (d ∷ cs))) e))
-rising-less c (d ∷ cs) e x (List·Memᴰ·tail m) = omega (
-  arith,
-  ltb-true (c .number) (d .number) (and-l _ (isRising (numbers (d ∷ cs))) e),
-  rising-less d cs (and-r (ltb (c .number) (d .number)) _ e) x m,
-)
+-- a number that no check has is not given
+pub given-lacks : (cs : List Check) (k p : ℕ) → lacks k cs ≡ true → Given k p cs → ⊥
+unfolding lacks
+given-lacks (c ∷ cs) k p e (here a f) = eqb-false (c .number) k (not-true _ (and-l (not (eqb (c .number) k)) (lacks k cs) e)) a
+given-lacks (c ∷ cs) k p e (later f g) = given-lacks cs k p (and-r (not (eqb (c .number) k)) (lacks k cs) e) g
 
--- line k applies, at p, and no line of a smaller number does
-pub record Exactly (k p : ℕ) (cs : List Check) : Type 0 where
-  pub check : Check
-  pub listed : List·Memᴰ check cs
-  pub number : check .number ≡ k
-  pub applies : check .fault ≡ at p
-  pub earlier : (d : Check) → List·Memᴰ d cs → d .number < k → d .fault ≡ nowhere
+-- a number that one check alone has is given where that check applies, and those before it pass
+pub given-alone : (bs : List Check) (c : Check) (ds : List Check) (k p : ℕ) → lacks k bs ≡ true → lacks k ds ≡ true
+    → Given k p (bs ++ (c ∷ ds)) → Passed bs × (c .fault ≡ at p)
+unfolding lacks
+given-alone [] c ds k p e l (here a f) = (tt, f)
+given-alone [] c ds k p e l (later f g) = absurd (given-lacks ds k p l g)
+given-alone (b ∷ bs) c ds k p e l (here a f) = absurd (eqb-false (b .number) k (not-true _ (and-l (not (eqb (b .number) k)) (lacks k bs) e)) a)
+given-alone (b ∷ bs) c ds k p e l (later f g) =
+    let t = given-alone bs c ds k p (and-r (not (eqb (b .number) k)) (lacks k bs) e) l g in
+    ((f, t .0), t .1)
 
-given-exactly : (cs : List Check) (k p : ℕ) → isRising (numbers cs) ≡ true → Given k p cs → Exactly k p cs
-given-exactly (c ∷ cs) k p e (here a b) = record {
-  check = c;
-  listed = List·Memᴰ·head refl;
-  number = a;
-  applies = b;
-  earlier = λ d m l. absurd (none d m l);
-}
-  where
-    none : (d : Check) → List·Memᴰ d (c ∷ cs) → d .number < k → ⊥
-    none d (List·Memᴰ·head q) l = omega (arith, ap (λ (x : Check). x .number) q)
-    none d (List·Memᴰ·tail m) l = omega (arith, rising-less c cs e d m)
-given-exactly (c ∷ cs) k p e (later a g) =
-    let w = given-exactly cs k p (rising-tail c cs e) g in
-    record { check = w .check; listed = List·Memᴰ·tail (w .listed); number = w .number; applies = w .applies; earlier = λ d m. first-or-later w d m }
-  where
-    first-or-later : Exactly k p cs → (d : Check) → List·Memᴰ d (c ∷ cs) → d .number < k → d .fault ≡ nowhere
-    first-or-later w d (List·Memᴰ·head q) l = ap (λ (x : Check). x .fault) q ∙ a
-    first-or-later w d (List·Memᴰ·tail m) l = w .earlier d m l
-
-exactly-given : (cs : List Check) (k p : ℕ) → isRising (numbers cs) ≡ true → (c : Check) → List·Memᴰ c cs → c .number ≡ k → c .fault ≡ at p
-    → ((d : Check) → List·Memᴰ d cs → d .number < k → d .fault ≡ nowhere) → Given k p cs
-exactly-given (b ∷ cs) k p e c (List·Memᴰ·head q) a f g = here (ap (λ (x : Check). x .number) (sym q) ∙ a) (ap (λ (x : Check). x .fault) (sym q) ∙ f)
-exactly-given (b ∷ cs) k p e c (List·Memᴰ·tail m) a f g = later (g b (List·Memᴰ·head refl) (omega (arith, rising-less b cs e c m)))
-    (exactly-given cs k p (rising-tail b cs e) c m a f (λ d i. g d (List·Memᴰ·tail i)))
-
-pub accepted-other : (k p : ℕ) → accepted ≡ refused k p → ⊥
-accepted-other k p e = let z : _≡_ {A = ℕ} 0 1 = cc in omega arith
-
--- THE CHAIN LAW: a number is given exactly when its check applies and every earlier one passes
-pub refused-exactly : (cs : List Check) → isRising (numbers cs) ≡ true → (k p : ℕ) → (cs ⊳ accepted ≡ refused k p) ↔ Exactly k p cs
-refused-exactly cs e k p = (
-  λ q. given-exactly cs k p e (chain-given cs accepted k p (accepted-other k p) q),
-  λ w. given-chain cs accepted k p (exactly-given cs k p e (w .check) (w .listed) (w .number) (w .applies) (w .earlier)),
-)
-
-rising-unique : (cs : List Check) → isRising (numbers cs) ≡ true → (c d : Check) → List·Memᴰ c cs → List·Memᴰ d cs → c .number ≡ d .number → c ≡ d
-rising-unique (b ∷ cs) e c d (List·Memᴰ·head p) (List·Memᴰ·head q) k = p ∙ sym q
-rising-unique (b ∷ cs) e c d (List·Memᴰ·head p) (List·Memᴰ·tail q) k = absurd (omega (arith, rising-less b cs e d q, ap (λ (x : Check). x .number) p))
-rising-unique (b ∷ cs) e c d (List·Memᴰ·tail p) (List·Memᴰ·head q) k = absurd (omega (arith, rising-less b cs e c p, ap (λ (x : Check). x .number) q))
-rising-unique (b ∷ cs) e c d (List·Memᴰ·tail p) (List·Memᴰ·tail q) k = rising-unique cs (rising-tail b cs e) c d p q k
-
--- where number k is given at p, the line of that number applies at p
-pub exactly-at : (cs : List Check) (k p : ℕ) → isRising (numbers cs) ≡ true → Exactly k p cs → (c : Check) → List·Memᴰ c cs → c .number ≡ k → c .fault ≡ at p
-exactly-at cs k p e w c m q = rw (rising-unique cs e c (w .check) m (w .listed) (q ∙ sym (w .number))) (w .applies)
+-- ---- lines and places
 
 -- the place of a line is the lowest at which it applies
 pub place-lowest : (k : ℕ) (t : ℕ → Bool) (a b p : ℕ) → (lineAt k t (range a b) .fault ≡ at p) ↔ Lowest t a b p

@@ -11,7 +11,7 @@ use Rattle.trees.specs.Rows.{nodes, parent, rootMark}
 use Rattle.trees.specs.Checks.{outside, isInner, stray, check6, rowChecks, judgeChecks}
 use Rattle.trees.specs.BoolLaws.{and-l, and-r, or-cases, or-none}
 use Rattle.trees.specs.ListLaws.{first-nowhere}
-use Rattle.trees.specs.ChainLaws.{isRising, numbers}
+use Rattle.trees.specs.ChainLaws.{numbers}
 use Rattle.trees.specs.WayLaws.{Closed}
 
 -- ---- the order of the checks
@@ -20,10 +20,6 @@ module _ (n : ℕ) (r : List ℕ) where
   pub judged-numbers : numbers (judgeChecks n r) ≡ (1 ∷ 3 ∷ 5 ∷ 6 ∷ 7 ∷ 8 ∷ 9 ∷ 10 ∷ [])
   unfolding judgeChecks rowChecks
   judged-numbers = refl
-
-  pub judged-rising : isRising (numbers (judgeChecks n r)) ≡ true
-  unfolding judgeChecks rowChecks isRising
-  judged-rising = refl
 
 -- ---- the tests behind the checks
 

@@ -1,7 +1,7 @@
 -- `before` is a strict total order of all groups, and of groups that agree it is document 01's. Assumes nothing.
 use Prim.Native.Nat.{ℕ, suc, _≤_, _<_}
 use mathlib.Core.Path.{_≡_, refl, sym, ap, _∙_}
-use mathlib.Core.Logic.{_⊎_, inl, inr}
+use mathlib.Core.Logic.{_↔_, _⊎_, inl, inr, ⊎-elim}
 use mathlib.Core.List.{[], _∷_}
 use mathlib.Core.Bool.{Bool, true, false, _&&_, _||_, false≢true, true≢false}
 use native.Mathlib.Nat.{eq-or-lt-of-le}
@@ -10,7 +10,7 @@ use lib.Dec.{eqb, ltb, leb·suc-suc}
 use lib.ListN.{length}
 use borrow.Author.Tests.{ltb-true, ltb-false, eqb-true, lt-ltb, le-ltb, eq-eqb}
 use Rattle.trees.specs.Groups.{Group, has, size, lowest, listFirst, before}
-use Rattle.trees.specs.BoolLaws.{and-l, and-r, or-cases, or-r, not-yes}
+use Rattle.trees.specs.BoolLaws.{and-l, and-r, and-both, or-cases, or-r, not-yes}
 use Rattle.trees.specs.GroupLaws.{Apart, Agree, under, over, aside, within-eq}
 
 -- ---- sample lists
@@ -140,6 +140,25 @@ before-falling g h l a x p q = go (eqb (size g) (size h)) refl
     go : (b : Bool) → eqb (size g) (size h) ≡ b → ltb (size h) (size g) || (b && listFirst g h) ≡ (ltb (size h) (size g) || (b && ltb (lowest g) (lowest h)))
     go true e = ap (λ (c : Bool). ltb (size h) (size g) || c) (list-lowest g h (level-apart g h l a x (eqb-true _ _ e)) p q)
     go false e = refl
+
+-- larger, or of the same size and with a smaller smallest sample (RULES 4.1)
+abbrev pub Earlier : Group → Group → Type 0
+Earlier g h = (size h < size g) ⊎ ((size g ≡ size h) × (lowest g < lowest h))
+
+-- of groups that agree `before` is this order
+pub before-earlier : (g h : Group) → length g ≡ length h → Agree g h → 0 < size g → 0 < size h → (before g h ≡ true) ↔ Earlier g h
+before-earlier g h l a p q = (to, from)
+  where
+    to : before g h ≡ true → Earlier g h
+    to e = ⊎-elim (λ s. inl (ltb-true _ _ s))
+        (λ t. inr (eqb-true _ _ (and-l _ (ltb (lowest g) (lowest h)) t), ltb-true _ _ (and-r (eqb (size g) (size h)) _ t)))
+        (or-cases (ltb (size h) (size g)) (eqb (size g) (size h) && ltb (lowest g) (lowest h))
+        (sym (before-falling g h l a (λ x. before-irrefl h (rw x at e)) p q) ∙ e))
+
+    from : Earlier g h → before g h ≡ true
+    from (inl s) = before-larger g h s
+    from (inr t) = before-falling g h l a (λ x. omega (arith, ap lowest x, t .1)) p q
+        ∙ or-r (ltb (size h) (size g)) (eqb (size g) (size h) && ltb (lowest g) (lowest h)) (and-both _ _ (eq-eqb _ _ (t .0)) (lt-ltb _ _ (t .1)))
 
 -- of two groups that agree the earlier holds all of the later, or none of it
 pub all-or-none : (g h : Group) → length g ≡ length h → before g h ≡ true → Agree g h → (s t : ℕ) → has h s ≡ true → has h t ≡ true → has g s ≡ has g t

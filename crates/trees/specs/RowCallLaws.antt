@@ -12,17 +12,17 @@ use Rattle.trees.specs.Lists.{Place, nowhere, at, range, count}
 use Rattle.trees.specs.Groups.{Group, member}
 use Rattle.trees.specs.Rows.{groups, nodes, rootMark, childOf}
 use Rattle.trees.specs.Checks.{Verdict, accepted, refused, counted, Check, line, lineAt, orElse, _⊳_, rowWords}
-use Rattle.trees.specs.Checks.{fewestSamples, outside, check6, check7, check8, check9, check10, rowChecks, judgeChecks}
+use Rattle.trees.specs.Checks.{fewestSamples, outside, check3, check6, check7, check8, check9, check10, rowChecks, judgeChecks}
 use Rattle.trees.specs.Valid.{Valid, Standard}
 use Rattle.trees.specs.Numbering.{renumbered}
-use Rattle.trees.specs.Comparing.{compared}
+use Rattle.trees.specs.Comparing.{shared, alone, compared}
 use Rattle.trees.specs.RowCalls.{check3Both, renumberChecks, renumbering, movedPlace, moved, compareChecks, comparing}
 use Rattle.trees.specs.BoolLaws.{or-none}
-use Rattle.trees.specs.ChainLaws.{chain-passed, isRising, Exactly, accepted-other, refused-exactly, Given}
-use Rattle.trees.specs.ChainLaws.{here, later, chain-given, given-chain, line-passes}
+use Rattle.trees.specs.ChainLaws.{Passed, passed-chain, unrefused-passed, chain-passed, Exactly, accepted-other, counted-other, refused-exactly, numbers, Given}
+use Rattle.trees.specs.ChainLaws.{here, later, chain-given, line-passes, passed-append, passed-split}
 use Rattle.trees.specs.ListLaws.{first-lowest}
 use Rattle.trees.specs.CheckLaws.{outside-not}
-use Rattle.trees.specs.ValidLaws.{passed-valid}
+use Rattle.trees.specs.ValidLaws.{passed-valid, valid-passed}
 use Rattle.trees.specs.NumberingLaws.{renumbered-standard, renumbered-groups, renumbered-same}
 use Rattle.trees.specs.OutcomeLaws.{outcome-refused, outcome-accepted}
 
@@ -33,24 +33,44 @@ both-lengths n r q e =
     let t = or-none (not (eqb (length r) (rowWords n))) (not (eqb (length q) (rowWords n))) (line-passes 3 _ e) in
     (eqb-true _ _ (not-false _ (t .0)), eqb-true _ _ (not-false _ (t .1)))
 
+one-fits : (n : ℕ) (r : List ℕ) → length r ≡ rowWords n → check3 n r .fault ≡ nowhere
+one-fits n r e = rw (eq-eqb (length r) (rowWords n) e)
+
+pub both-fit : (n : ℕ) (r q : List ℕ) → length r ≡ rowWords n → length q ≡ rowWords n → check3Both n r q .fault ≡ nowhere
+both-fit n r q d e = rw (eq-eqb (length r) (rowWords n) d, eq-eqb (length q) (rowWords n) e)
+
 -- ---- renumbering
 
 module _ (n : ℕ) (r out : List ℕ) where
-  -- DEMAND 1: a number is given exactly when its line applies and no line of a smaller number does
+  -- the order of its checks
+  pub renumbering-numbers : numbers (renumberChecks n r out) ≡ (1 ∷ 3 ∷ 5 ∷ 6 ∷ 7 ∷ 8 ∷ 9 ∷ 10 ∷ [])
+  unfolding renumberChecks rowChecks
+  renumbering-numbers = refl
+
+  -- DEMAND 1 of renumbering (RULES D1)
   pub renumbering-exactly : (k p : ℕ) → (renumbering n r out .verdict ≡ refused k p) ↔ Exactly k p (renumberChecks n r out)
-  unfolding renumbering renumberChecks rowChecks isRising
-  renumbering-exactly = refused-exactly (renumberChecks n r out) refl
+  unfolding renumbering
+  renumbering-exactly = refused-exactly (renumberChecks n r out) accepted accepted-other
 
   -- and no word of `out` differs then
   pub renumbering-refused : (k p : ℕ) → renumbering n r out .verdict ≡ refused k p → renumbering n r out .words ≡ out
   unfolding renumbering
   renumbering-refused k p e = outcome-refused (renumberChecks n r out) out (renumbered n r) k p e
 
-  pub renumbering-valid : renumbering n r out .verdict ≡ accepted → Valid n r
+  -- it is accepted exactly if the row is valid and the output has 2n words
+  pub renumbering-accepts : (renumbering n r out .verdict ≡ accepted) ↔ (Valid n r × (length out ≡ rowWords n))
   unfolding renumbering renumberChecks judgeChecks
-  renumbering-valid e =
-      let h = chain-passed (renumberChecks n r out) e in
-      passed-valid n r (h .0, (ap (λ (b : Bool). line 3 (not b) .fault) (eq-eqb (length r) (rowWords n) (both-lengths n r out (h .1 .0) .0)), h .1 .1))
+  renumbering-accepts = (to, λ t. let h = valid-passed n r (t .0) in
+      passed-chain (renumberChecks n r out) accepted (h .0, (both-fit n r out (t .0 .words) (t .1), h .1 .1)))
+    where
+      to : renumberChecks n r out ⊳ accepted ≡ accepted → Valid n r × (length out ≡ rowWords n)
+      to e =
+          let h = chain-passed (renumberChecks n r out) e in
+          let l = both-lengths n r out (h .1 .0) in
+          (passed-valid n r (h .0, (one-fits n r (l .0), h .1 .1)), l .1)
+
+  pub renumbering-valid : renumbering n r out .verdict ≡ accepted → Valid n r
+  renumbering-valid e = renumbering-accepts .0 e .0
 
   renumbering-words : renumbering n r out .verdict ≡ accepted → renumbering n r out .words ≡ renumbered n r
   unfolding renumbering
@@ -70,14 +90,47 @@ renumbering-same n r q a b e f h = renumbering-words n r a e ∙ renumbered-same
 
 -- ---- comparing
 
+-- checks pass exactly if they pass with their places moved
+pub moved-passed : (d : ℕ) (cs : List Check) → Passed (map (moved d) cs) ↔ Passed cs
+moved-passed d [] = (λ h. tt, λ h. tt)
+moved-passed d (c ∷ cs) = (λ h. (to (c .fault) (h .0), moved-passed d cs .0 (h .1)), λ h. (ap (movedPlace d) (h .0), moved-passed d cs .1 (h .1)))
+  where
+    to : (f : Place) → movedPlace d f ≡ nowhere → f ≡ nowhere
+    to nowhere e = refl
+    to (at p) e = let z : _≡_ {A = ℕ} 0 1 = cc in absurd (omega arith)
+
 module _ (n : ℕ) (r q : List ℕ) where
-  -- DEMAND 1: a number is given at a place exactly when a check applies there and every earlier one passes
-  pub comparing-given : (k p : ℕ) → (comparing n r q ≡ refused k p) ↔ Given k p (compareChecks n r q)
+  -- the order of its checks: those of the first row, then those of the second
+  pub comparing-numbers : numbers (compareChecks n r q) ≡ (1 ∷ 3 ∷ 5 ∷ 6 ∷ 7 ∷ 8 ∷ 9 ∷ 10 ∷ 5 ∷ 6 ∷ 7 ∷ 8 ∷ 9 ∷ 10 ∷ [])
+  unfolding compareChecks rowChecks
+  comparing-numbers = refl
+
+  -- DEMAND 1 of comparing (RULES D1)
+  pub comparing-exactly : (k p : ℕ) → (comparing n r q ≡ refused k p) ↔ Exactly k p (compareChecks n r q)
   unfolding comparing compared
-  comparing-given k p = (
-    chain-given (compareChecks n r q) (compared n r q) k p (λ e. let z : _≡_ {A = ℕ} 0 1 = cc in omega arith),
-    given-chain (compareChecks n r q) (compared n r q) k p,
-  )
+  comparing-exactly = refused-exactly (compareChecks n r q) (compared n r q) (counted-other (shared n r q) (alone n r q) (alone n q r))
+
+  -- it answers its counts exactly if both rows are valid
+  pub comparing-accepts : (comparing n r q ≡ compared n r q) ↔ (Valid n r × Valid n q)
+  unfolding comparing compared compareChecks judgeChecks
+  comparing-accepts = (to, from)
+    where
+      to : compareChecks n r q ⊳ compared n r q ≡ compared n r q → Valid n r × Valid n q
+      to e =
+          let h = unrefused-passed (compareChecks n r q) (compared n r q)
+              (λ k p d. counted-other (shared n r q) (alone n r q) (alone n q r) k p (sym e ∙ d)) in
+          let l = both-lengths n r q (h .1 .0) in
+          let s = passed-split (rowChecks n r) (map (moved (rowWords n)) (rowChecks n q)) (h .1 .1) in (
+            passed-valid n r (h .0, (one-fits n r (l .0), s .0)),
+            passed-valid n q (h .0, (one-fits n q (l .1), moved-passed (rowWords n) (rowChecks n q) .0 (s .1))),
+          )
+
+      from : Valid n r × Valid n q → compareChecks n r q ⊳ compared n r q ≡ compared n r q
+      from t =
+          let h = valid-passed n r (t .0) in
+          let k = valid-passed n q (t .1) in
+          passed-chain (compareChecks n r q) (compared n r q) (h .0, (both-fit n r q (t .0 .words) (t .1 .words),
+          passed-append (rowChecks n r) (map (moved (rowWords n)) (rowChecks n q)) (h .1 .1) (moved-passed (rowWords n) (rowChecks n q) .1 (k .1 .1))))
 
 -- a verdict whose place has d added
 abbrev pub movedVerdict : ℕ → Verdict → Verdict

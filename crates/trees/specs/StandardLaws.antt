@@ -1,7 +1,7 @@
 -- A standard row: its inner groups are a family, it is the row of them, and its groups settle it. Assumes nothing.
 use Prim.Native.Nat.{ℕ, zero, suc, _+_, _-_, _≤_, _<_}
 use mathlib.Core.Path.{_≡_, refl, sym, ap, _∙_, subst}
-use mathlib.Core.Logic.{_⊎_, inl, inr, ⊎-elim}
+use mathlib.Core.Logic.{_↔_, _⊎_, inl, inr, ⊎-elim}
 use mathlib.Core.List.{List}
 use mathlib.Core.Bool.{true, false}
 use native.Mathlib.Nat.{add-sub-of-le}
@@ -18,8 +18,8 @@ use Rattle.trees.specs.Rooted.{Rooted}
 use Rattle.trees.specs.Numbering.{lastWith, rowOf}
 use Rattle.trees.specs.BoolLaws.{and-l, and-r, and-both, not-yes, decide}
 use Rattle.trees.specs.GroupLaws.{within-eq, lowest-has}
-use Rattle.trees.specs.OrderLaws.{before-irrefl, before-size}
-use Rattle.trees.specs.MemberLaws.{nth, strict-at, in-order-strict, strict-in-order}
+use Rattle.trees.specs.OrderLaws.{Earlier, before-irrefl, before-size, before-earlier}
+use Rattle.trees.specs.MemberLaws.{nth, strict-table, strict-at, in-order-strict, strict-in-order}
 use Rattle.trees.specs.ValidLaws.{accepted-to, judged-valid, valid-judged}
 use Rattle.trees.specs.RowOfLaws.{nodes-row, parent-leaf, parent-inner, filler-row}
 use Rattle.trees.specs.FamilyLaws.{Family, last-is}
@@ -27,7 +27,7 @@ use Rattle.trees.specs.PlantingLaws.{planted-valid}
 use Rattle.trees.specs.WayLaws.{meets-refl, meets-past, meets-line}
 use Rattle.trees.specs.RowLaws.{Above, length-group, group-has, in-group, length-inner, at-inner, in-inner}
 use Rattle.trees.specs.RowLaws.{no-mark, own-parent, child-above, below-child, no-leaf-above, top-of, above-within}
-use Rattle.trees.specs.RowLaws.{parent-range, valid-rooted, group-agree, one-root, inner-two, whole-inner}
+use Rattle.trees.specs.RowLaws.{parent-range, valid-rooted, group-agree, group-full, one-root, inner-two, whole-inner}
 
 -- ---- the test is the record
 
@@ -174,3 +174,19 @@ module _ (n : ℕ) (r : List ℕ) (std : Standard n r) where
   -- a standard row is the row of its inner groups
   pub standard-row : rowOf n (inner n r) ≡ r
   standard-row = ext-getD 0 (rowOf n (inner n r)) r (planted-valid n (inner n r) standard-family (ok .most) .words ∙ sym (ok .words)) same-word
+
+-- `standard` is the order of RULES 4.1, for every valid row: of any two inner nodes the one with the lower number has the earlier group
+pub standard-order : (n : ℕ) (r : List ℕ) → Valid n r
+    → (standard n r ≡ true) ↔ ((u v : ℕ) → n ≤ u → u < v → v < nodes r → Earlier (groupAt n r u) (groupAt n r v))
+unfolding inner
+standard-order n r ok = (
+  λ e u v a h k. each u v h k .0 (node-before n r (standard-to n r e) u v a h k),
+  λ f. standard-from n r record {
+    valid = ok;
+    strict = strict-table (nodes r - n) (groupAt n r) n (λ u v a h k. let l : v < nodes r = omega (arith, ok .low) in each u v h l .1 (f u v a h l));
+  },
+)
+  where
+    each : (u v : ℕ) → u < v → v < nodes r → (before (groupAt n r u) (groupAt n r v) ≡ true) ↔ Earlier (groupAt n r u) (groupAt n r v)
+    each u v h k = before-earlier (groupAt n r u) (groupAt n r v) (length-group n r u ∙ sym (length-group n r v)) (group-agree n r ok u v)
+        (group-full n r ok u (omega arith)) (group-full n r ok v k)

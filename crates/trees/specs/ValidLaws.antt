@@ -2,22 +2,22 @@
 use Prim.Native.Nat.{ℕ, zero, suc, _+_, _-_, _≤_, _<_, zero-le}
 use mathlib.Core.Path.{_≡_, refl, sym, ap, _∙_}
 use mathlib.Core.Logic.{_↔_, _⊎_, inl, inr, ⊎-elim}
-use mathlib.Core.List.{List, [], _∷_, List·Memᴰ, List·Memᴰ·head, List·Memᴰ·tail}
+use mathlib.Core.List.{List, [], _∷_}
 use mathlib.Core.Bool.{Bool, true, false, _&&_, not, false≢true}
 use native.Mathlib.Omega.{arith}
 use lib.Dec.{eqb, ltb, leb}
 use lib.ListN.{length, getD}
 use lib.Seq.{ext-getD}
 use borrow.Author.Tests.{eqb-true, ltb-true, ltb-false, eq-eqb, le-ltb, le-leb, not-true, not-false}
-use Rattle.trees.specs.Lists.{tabulate, weigh, range, count}
+use Rattle.trees.specs.Lists.{nowhere, at, tabulate, weigh, range, count}
 use Rattle.trees.specs.Rows.{nodes, parent, rootMark, childOf, ends}
 use Rattle.trees.specs.Checks.{Verdict, accepted, refused, counted, fewestSamples, mostSamples, rowWords, outside, isInner}
-use Rattle.trees.specs.Checks.{stray, children, check6, check9, rowChecks, judgeChecks, judged, _⊳_}
+use Rattle.trees.specs.Checks.{stray, children, check1, check3, check5, check6, check7, check8, check9, check10, rowChecks, judgeChecks, judged, _⊳_}
 use Rattle.trees.specs.Valid.{Valid, isAccepted}
 use Rattle.trees.specs.BoolLaws.{and-both, or-r, not-yes, decide}
 use Rattle.trees.specs.ListLaws.{first-lowest, first-nowhere, nowhere-first, Lowest}
-use Rattle.trees.specs.ChainLaws.{Passed, passed-chain, chain-passed, Exactly, refused-exactly, exactly-at, line-passes}
-use Rattle.trees.specs.CheckLaws.{judged-rising, outside-not, not-outside, inner-from, stray-not, check6-closed}
+use Rattle.trees.specs.ChainLaws.{Passed, passed-chain, chain-passed, Exactly, chain-given, accepted-other, refused-exactly, lacks, given-alone, line-passes}
+use Rattle.trees.specs.CheckLaws.{outside-not, not-outside, inner-from, stray-not, check6-closed}
 use Rattle.trees.specs.WayLaws.{Closed, ends-enough}
 
 pub accepted-to : (v : Verdict) → isAccepted v ≡ true → v ≡ accepted
@@ -98,19 +98,19 @@ module _ (n : ℕ) (r : List ℕ) where
   unfolding judgeChecks
   valid-row ok v = passed-chain (rowChecks n r) v (valid-passed ok .1 .1)
 
-  -- ---- DEMAND 1 of judging: a number is given exactly when its line applies and no line of a smaller number does
+  -- ---- DEMAND 1 of judging (RULES D1)
 
   pub judged-exactly : (k p : ℕ) → (judged n r ≡ refused k p) ↔ Exactly k p (judgeChecks n r)
   unfolding judged
-  judged-exactly = refused-exactly (judgeChecks n r) (judged-rising n r)
+  judged-exactly = refused-exactly (judgeChecks n r) accepted accepted-other
 
-  listed6 : List·Memᴰ (check6 n r) (judgeChecks n r)
-  unfolding judgeChecks rowChecks
-  listed6 = List·Memᴰ·tail (List·Memᴰ·tail (List·Memᴰ·tail (List·Memᴰ·head refl)))
-
-  listed9 : List·Memᴰ (check9 n r) (judgeChecks n r)
-  unfolding judgeChecks rowChecks
-  listed9 = List·Memᴰ·tail (List·Memᴰ·tail (List·Memᴰ·tail (List·Memᴰ·tail (List·Memᴰ·tail (List·Memᴰ·tail (List·Memᴰ·head refl))))))
+  -- where 9 is given, check 9 applies and check 6 passes
+  given9 : (p : ℕ) → judged n r ≡ refused 9 p → (check6 n r .fault ≡ nowhere) × (check9 n r .fault ≡ at p)
+  unfolding judged judgeChecks rowChecks lacks
+  given9 p e =
+      let t = given-alone (check1 n ∷ check3 n r ∷ check5 n r ∷ check6 n r ∷ check7 n r ∷ check8 n r ∷ []) (check9 n r) (check10 n r ∷ []) 9 p refl refl
+          (chain-given (judgeChecks n r) accepted 9 p (accepted-other 9 p) e) in
+      (t .0 .1 .1 .1 .0, t .1)
 
   -- ---- number 9: "never" is for any number of steps, and every node below the place does come to the root
 
@@ -120,14 +120,11 @@ module _ (n : ℕ) (r : List ℕ) where
     λ u h. not-false _ (low .none u zero-le h),
   )
     where
-      w : Exactly 9 p (judgeChecks n r)
-      w = judged-exactly 9 p .0 e
-
       low : Lowest (λ v. not (ends (nodes r) r v)) 0 (nodes r) p
-      low = first-lowest _ 0 (nodes r) p (exactly-at (judgeChecks n r) 9 p (judged-rising n r) w (check9 n r) listed9 refl)
+      low = first-lowest _ 0 (nodes r) p (given9 p e .1)
 
       closed : Closed (nodes r) r
-      closed = check6-closed n r (w .earlier (check6 n r) listed6 (omega arith))
+      closed = check6-closed n r (given9 p e .0)
 
 -- ---- specimens that no computation shows
 
