@@ -16,3 +16,4 @@ pub mod FreshLaws
 pub mod MoveLaws
 pub mod Reports
 pub mod ReportLaws
+pub mod PlacedLaws

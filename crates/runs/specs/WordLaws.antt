@@ -49,6 +49,22 @@ capacity-room len n k h l =
     let x : k * slotWords n ≤ len - headerWords = le-div-iff-mul-le p .0 u in
     omega arith
 
+-- runs that are few enough and whose slots fit have room
+pub capacity-largest : (len n k : ℕ) → k ≤ mostRuns → slotStart n k ≤ len → k ≤ capacity len n
+unfolding capacity
+capacity-largest len n k h l =
+    let p : 0 < slotWords n = omega arith in
+    let q : k * slotWords n ≤ len - headerWords = omega arith in
+    let u : k ≤ (len - headerWords) / slotWords n = le-div-iff-mul-le p .1 q in
+    omega arith
+
+-- RULES 6.6 in its own figures: there is room for k runs, one or more, exactly if they are at most 1,024 and their slots fit after the header
+pub capacity-exactly : (len n k : ℕ) → 1 ≤ k → (k ≤ capacity len n) ↔ ((k ≤ 1024) × (8 + k * (2 * n + 1) ≤ len))
+capacity-exactly len n k h = (
+  λ l. (omega (arith, capacity-most len n), capacity-room len n k (omega arith) l),
+  λ t. capacity-largest len n k (t .0) (t .1),
+)
+
 -- "k equals capacity"
 pub full-at : (w : List ℕ) → inForce w ≡ capacity (length w) (samples w) → full w ≡ true
 full-at w e = eq-eqb (inForce w) (capacity (length w) (samples w)) e

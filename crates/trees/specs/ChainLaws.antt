@@ -141,11 +141,11 @@ refused-exactly cs v x k p = (
 
 -- ---- what holds of a chain's verdict
 
--- what holds of every refusal that the checks can give, and of v, holds of the verdict
-pub chain-holds : (P : Verdict → Type 0) (cs : List Check) (v : Verdict) → ((k p : ℕ) → Given k p cs → P (refused k p)) → P v → P (cs ⊳ v)
+-- what holds of every refusal that the checks can give, and of v where all of them pass, holds of the verdict
+pub chain-holds : (P : Verdict → Type 0) (cs : List Check) (v : Verdict) → ((k p : ℕ) → Given k p cs → P (refused k p)) → (Passed cs → P v) → P (cs ⊳ v)
 unfolding _⊳_
-chain-holds P [] v h y = y
-chain-holds P (c ∷ cs) v h y = go (c .fault) refl (λ q. chain-holds P cs v (λ k p g. h k p (later q g)) y)
+chain-holds P [] v h y = y tt
+chain-holds P (c ∷ cs) v h y = go (c .fault) refl (λ q. chain-holds P cs v (λ k p g. h k p (later q g)) (λ x. y (q, x)))
   where
     go : (f : Place) → c .fault ≡ f → (c .fault ≡ nowhere → P (cs ⊳ v)) → P (orElse (c .number) f (cs ⊳ v))
     go nowhere q r = r q

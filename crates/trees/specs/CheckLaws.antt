@@ -1,17 +1,17 @@
 -- The tests behind the checks, taken apart, and the order of the checks. Assumes nothing.
 use Prim.Native.Nat.{ℕ, _≤_, _<_, zero-le}
 use mathlib.Core.Path.{_≡_, refl}
-use mathlib.Core.Logic.{_⊎_, inl, inr, ⊎-elim}
+use mathlib.Core.Logic.{_↔_, _⊎_, inl, inr, ⊎-elim}
 use mathlib.Core.List.{List, [], _∷_}
 use mathlib.Core.Bool.{true, false, _&&_}
 use lib.Dec.{eqb, ltb, leb}
 use borrow.Author.Tests.{eqb-true, eqb-false, ltb-true, ltb-false, leb-true, lt-ltb, le-ltb, le-leb, not-false}
 use Rattle.trees.specs.Lists.{nowhere}
 use Rattle.trees.specs.Rows.{nodes, parent, rootMark}
-use Rattle.trees.specs.Checks.{outside, isInner, stray, check6, rowChecks, judgeChecks}
+use Rattle.trees.specs.Checks.{fewestSamples, mostSamples, outside, isInner, stray, check1, check6, rowChecks, judgeChecks}
 use Rattle.trees.specs.BoolLaws.{and-l, and-r, or-cases, or-none}
 use Rattle.trees.specs.ListLaws.{first-nowhere}
-use Rattle.trees.specs.ChainLaws.{numbers}
+use Rattle.trees.specs.ChainLaws.{numbers, line-passes, line-pass}
 use Rattle.trees.specs.WayLaws.{Closed}
 
 -- ---- the order of the checks
@@ -28,6 +28,13 @@ outside-not a b x e = let t = or-none (ltb x a) (ltb b x) e in (ltb-false x a (t
 
 pub not-outside : (a b x : ℕ) → a ≤ x → x ≤ b → outside a b x ≡ false
 not-outside a b x h k = rw (le-ltb x a h, le-ltb b x k)
+
+-- check 1 in its own figures (RULES 1.1)
+pub samples-exactly : (n : ℕ) → (check1 n .fault ≡ nowhere) ↔ ((2 ≤ n) × (n ≤ 512))
+samples-exactly n = (
+  λ e. outside-not fewestSamples mostSamples n (line-passes 1 (outside fewestSamples mostSamples n) e),
+  λ t. line-pass 1 (outside fewestSamples mostSamples n) (not-outside fewestSamples mostSamples n (t .0) (t .1)),
+)
 
 pub inner-to : (n m p : ℕ) → isInner n m p ≡ true → (n ≤ p) × (p < m)
 inner-to n m p e = (leb-true n p (and-l (leb n p) (ltb p m) e), ltb-true p m (and-r (leb n p) (ltb p m) e))

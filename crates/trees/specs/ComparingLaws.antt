@@ -10,6 +10,7 @@ use borrow.Author.Tests.{lt-ltb}
 use native.Mathlib.Nat.{le-antisymm}
 use Rattle.trees.specs.Lists.{tabulate, range, filter, weigh, count}
 use Rattle.trees.specs.Groups.{Group, single, size, before, member}
+use Rattle.trees.specs.Checks.{rowWords}
 use Rattle.trees.specs.Valid.{Valid, In, Strict, Standard}
 use Rattle.trees.specs.Rows.{nodes, groupAt, groups, inner, holds}
 use Rattle.trees.specs.Numbering.{ordered, groupSet, renumbered}
@@ -21,7 +22,7 @@ use Rattle.trees.specs.OrderLaws.{before-larger, before-falling}
 use Rattle.trees.specs.MemberLaws.{mem-in, member-append, member-filter, in-table}
 use Rattle.trees.specs.MemberLaws.{strict-filter, strict-append, strict-table, strict-unique, ordered-same}
 use Rattle.trees.specs.RowLaws.{length-inner, in-inner, inner-two, groups-split}
-use Rattle.trees.specs.NumberingLaws.{set-strict, member-set, renumbered-groups, row-tree}
+use Rattle.trees.specs.NumberingLaws.{set-strict, member-set, renumbered-standard, renumbered-groups, row-tree}
 
 count-filter : (t : Group → Bool) (gs : List Group) → count t gs ≡ length (filter t gs)
 unfolding weigh filter
@@ -91,6 +92,14 @@ set-standard n r std = strict-unique (groupSet n r) (inner n r ++ tabulate n (si
 pub length-set-standard : (n : ℕ) (r : List ℕ) → Standard n r → length (groupSet n r) ≡ nodes r
 length-set-standard n r std = ap length (set-standard n r std) ∙ length-append (inner n r) (tabulate n (single n) 0)
     ∙ omega (arith, length-inner n r, length-tabulate n (single n) 0, std .valid .low)
+
+-- a valid row has fewer groups than words
+pub length-set-valid : (n : ℕ) (r : List ℕ) → Valid n r → length (groupSet n r) < rowWords n
+unfolding groupSet
+length-set-valid n r ok =
+    let std = renumbered-standard n r ok in
+    let e : ordered (groups n r) ≡ ordered (groups n (renumbered n r)) = ordered-same _ _ (λ x. sym (renumbered-groups n r ok x)) in
+    omega (arith, ap length e, length-set-standard n (renumbered n r) std, std .valid .high)
 
 count-tabulate : (t : Group → Bool) (k : ℕ) (f : ℕ → Group) (s : ℕ) → count t (tabulate k f s) ≡ count (λ v. t (f v)) (tabulate k (λ v. v) s)
 unfolding weigh tabulate

@@ -35,6 +35,7 @@ pub mod ComparingLaws
 pub mod ReportingLaws
 pub mod OutcomeLaws
 pub mod RowCallLaws
+pub mod PlacedLaws
 pub mod FallsLaws
 pub mod Tables
 pub mod TableLaws

@@ -90,14 +90,17 @@ renumbering-same n r q a b e f h = renumbering-words n r a e ∙ renumbered-same
 
 -- ---- comparing
 
+pub moved-nowhere : (d : ℕ) (f : Place) → movedPlace d f ≡ nowhere → f ≡ nowhere
+moved-nowhere d nowhere e = refl
+moved-nowhere d (at p) e = let z : _≡_ {A = ℕ} 0 1 = cc in absurd (omega arith)
+
 -- checks pass exactly if they pass with their places moved
 pub moved-passed : (d : ℕ) (cs : List Check) → Passed (map (moved d) cs) ↔ Passed cs
 moved-passed d [] = (λ h. tt, λ h. tt)
-moved-passed d (c ∷ cs) = (λ h. (to (c .fault) (h .0), moved-passed d cs .0 (h .1)), λ h. (ap (movedPlace d) (h .0), moved-passed d cs .1 (h .1)))
-  where
-    to : (f : Place) → movedPlace d f ≡ nowhere → f ≡ nowhere
-    to nowhere e = refl
-    to (at p) e = let z : _≡_ {A = ℕ} 0 1 = cc in absurd (omega arith)
+moved-passed d (c ∷ cs) = (
+  λ h. (moved-nowhere d (c .fault) (h .0), moved-passed d cs .0 (h .1)),
+  λ h. (ap (movedPlace d) (h .0), moved-passed d cs .1 (h .1)),
+)
 
 module _ (n : ℕ) (r q : List ℕ) where
   -- the order of its checks: those of the first row, then those of the second
@@ -148,44 +151,3 @@ chain-moved d (c ∷ cs) = go (c .fault) (chain-moved d cs)
         → orElse (c .number) (movedPlace d f) (map (moved d) cs ⊳ accepted) ≡ movedVerdict d (orElse (c .number) f (cs ⊳ accepted))
     go nowhere e = e
     go (at p) e = refl
-
--- ---- the place of a row's refusal is a word or a node of it
-
--- a check's place, where it applies, is below b
-abbrev Below : ℕ → Check → Type 0
-Below b c = (p : ℕ) → c .fault ≡ at p → p < b
-
-abbrev AllBelow : ℕ → List Check → Type 0
-AllBelow b [] = Unit {0}
-AllBelow b (c ∷ cs) = Below b c × AllBelow b cs
-
-given-below : (b k p : ℕ) (cs : List Check) → AllBelow b cs → Given k p cs → p < b
-given-below b k p (c ∷ cs) h (here x e) = h .0 p e
-given-below b k p (c ∷ cs) h (later x g) = given-below b k p cs (h .1) g
-
-line-below : (k b : ℕ) (t : Bool) → 0 < b → Below b (line k t)
-line-below k b true h p e = let q : 0 ≡ p = cc in omega arith
-line-below k b false h p e = let z : _≡_ {A = ℕ} 0 1 = cc in absurd (omega arith)
-
-at-below : (k b : ℕ) (t : ℕ → Bool) (a c : ℕ) → c ≤ b → Below b (lineAt k t (range a c))
-at-below k b t a c h p e = omega (arith, first-lowest t a c p e .to)
-
-pub row-place : (n : ℕ) (r : List ℕ) (k p : ℕ) → fewestSamples ≤ n → rowChecks n r ⊳ accepted ≡ refused k p → p < rowWords n
-unfolding rowChecks
-row-place n r k p h e = go (chain-given (rowChecks n r) accepted k p (accepted-other k p) e)
-  where
-    rest : nodes r ≤ rowWords n - 1 → AllBelow (rowWords n) (check6 n r ∷ check7 n r ∷ check8 n r ∷ check9 n r ∷ check10 n r ∷ [])
-    rest m = (
-      at-below 6 (rowWords n) _ 0 (nodes r) (omega arith),
-      (
-        line-below 7 (rowWords n) (not (eqb (count (childOf r rootMark) (range n (nodes r))) 1)) (omega arith),
-        (
-          at-below 8 (rowWords n) _ (nodes r + 1) (rowWords n) (omega arith),
-          (at-below 9 (rowWords n) _ 0 (nodes r) (omega arith), (at-below 10 (rowWords n) _ n (nodes r) (omega arith), tt)),
-        ),
-      ),
-    )
-
-    go : Given k p (rowChecks n r) → p < rowWords n
-    go (here x q) = line-below 5 (rowWords n) (outside (n + 1) (rowWords n - 1) (nodes r)) (omega arith) p q
-    go (later x g) = given-below (rowWords n) k p _ (rest (outside-not (n + 1) (rowWords n - 1) (nodes r) (line-passes 5 _ x) .1)) g

@@ -5,7 +5,7 @@ use denote.Ref.{now}
 use Rattle.trees.specs.Checks.{accepted, refused, _⊳_, rowChecks}
 use Rattle.trees.specs.Valid.{Valid}
 use Rattle.trees.specs.RowCalls.{renumberChecks}
-use Rattle.trees.specs.RowCallLaws.{row-place}
+use Rattle.trees.specs.PlacedLaws.{row-place}
 use Rattle.judge.specs.Verdicts.{verdict}
 use Rattle.row.proofs.AnswerLaws.{first-valid, second-words}
 use Rattle.compare.proofs.AnswerLaws.{first-refused, second-refused, both-accepted, second-valid}
