@@ -1,4 +1,4 @@
-// The layout of a study's words and of a row.
+// The layout of a study's words (RULES 6) and of a row (RULES 2).
 #pragma once
 #include "libc.h"
 enum { SAMPLES = 512, RUNS = 1024, NODES = 2 * SAMPLES, HEADER = 8, NO_PARENT = 65535 };

@@ -1,36 +1,38 @@
 /*
- * arb: runs of one sample set, and the tree that more than half of them hold.
+ * arb: runs of one sample set, and the tree that more than half of them hold. RULES 6, say, is section 6 of docs/RULES.md, where
+ * all rules are numbered.
  *
- * SAMPLES, ROWS AND GROUPS. There are n samples, numbered 0 to n-1, with n from 2 to 512. A run is one rooted tree whose leaves are the
- * samples. It has m nodes, n+1 to 2n-1 of them: nodes 0 to n-1 are the samples, nodes n to m-1 the inner nodes. A tree is handed over as a
- * row of 2n 16-bit words, ARB_ROW_WORDS(n):
+ * SAMPLES, ROWS AND GROUPS (RULES 1 to 4). There are n samples, at least 2 and at most 512, with the numbers 0 to n-1. A run is one rooted
+ * tree whose leaves are the samples. It has m nodes, more than n and fewer than 2n: first the samples, then, as nodes n to m-1, the inner
+ * nodes. A tree is handed over as a row of 2n 16-bit words, ARB_ROW_WORDS(n):
  *
  *     word 0                  m
  *     word 1+v, v below m     the parent of node v: an inner node, or ARB_ROOT_MARK where v is the root, which is an inner node too
- *     the words after that    filler, 0
+ *     all others              0, as filler
  *
  * There is one root, each node leads up to it, and each inner node has two children or more. Inner nodes of a row that you hand in may
- * be numbered in any order. The group of a node is the set of samples at or below it; two rows are the same tree if they have the same
- * groups. Rows that the library writes or stores are in standard numbering: inner nodes from n on, by falling group size, and where sizes
- * are equal by rising smallest sample. The root is then n, and the same tree has the same words. The tree ((0,1),2), n = 3:
+ * be numbered in any order. To the group of a node belong the samples that are the node itself or stand below it; two rows are the same tree
+ * if they have the same groups. Rows that the library writes or stores are in standard numbering: inner nodes get their numbers, from n on,
+ * in the order of their groups, larger ones first, and of groups with the same size the one with the smaller smallest sample first. So the
+ * root is node n, and the same tree has the same words. The tree ((0,1),2), n = 3:
  *
  *     5 4 4 3 65535 3     in standard numbering: 3 is the root, and 4, the parent of samples 0 and 1, stands below it
  *     5 3 3 4 4 65535     the same tree with 3 and 4 the other way round
  *
- * STUDIES. A study is a buffer of yours that holds runs, each under an identifier from 1 to 65535 that you choose. Those that were added
- * and not withdrawn are the runs in force, at most 1024 of them. It needs ARB_STUDY_WORDS(n, runs) words, and has room for
- * (length - 8) / (2n + 1) runs, rounded down. It holds no pointers: it can be copied, stored and read again, and copied into a longer buffer
- * whose further words are 0 it has more room.
+ * STUDIES (RULES 6). A study is a buffer of yours that holds runs, each under an identifier from 1 to 65535 that you choose. Those that were
+ * added and not withdrawn are in force, and there can be 1024 of these. A study needs ARB_STUDY_WORDS(n, runs) words, and has room for
+ * (length - 8) / (2n + 1) runs, without the fraction. It holds no pointers: it can be copied, stored and read again. Copied into a longer
+ * buffer whose further words are 0, it has more room.
  *
- *     words 0 to 3            65, 82, 66 (the mark ARB), 1 (the version)
+ *     words 0 to 3            65 82 66, which is ARB in ASCII, and the version, 1
  *     words 4 and 5           n, and k, the number of runs in force
  *     words 6 and 7           0
- *     from word 8 on          k slots of 2n+1 words: an identifier, then its row in standard numbering; identifiers rise
- *     the words after that    0, to the end of the buffer
+ *     from word 8 on          k slots, lowest identifier first, each of 2n+1 words: the identifier and its row, in standard numbering
+ *     all others              0, to the end of the buffer
  *
- * THE REPORT. With k runs in force the agreed tree has exactly the groups that are held by more than half of them: twice the number of
- * runs that hold the group is greater than k. The support row, of 2n words as well, stands beside the agreed row: word 0 is k, word 1+v the
- * number of runs that hold the group of node v, and filler is 0.
+ * THE REPORT (RULES 5). Of k runs in force, s hold a group. The agreed tree has the group if 2s > k, and only then: half of the runs is not
+ * enough. The support row, of 2n words as well, goes with the agreed row: k first, then for each node how many runs hold its group, then 0
+ * as filler.
  *
  * BUFFERS. Each is a pointer and its length in 16-bit words, not bytes. The pointer is aligned for uint16_t and valid for that many words; it
  * may be NULL only where the length is 0. A buffer that a call writes (its pointer is not const) must not overlap another buffer of that call.
@@ -56,14 +58,14 @@ extern "C" {
 #define ARB_MOST_IDENTIFIER 65535
 #define ARB_ROOT_MARK 65535
 
-/* Words of a row over n samples, of a study's header, of one run in it, and of a study with room for so many runs. */
+/* Words of a row over n samples, of a study's header, of one run in it, and of a study with room for that many runs. */
 #define ARB_ROW_WORDS(n) (2 * (size_t)(n))
 #define ARB_HEADER_WORDS 8
 #define ARB_SLOT_WORDS(n) (ARB_ROW_WORDS(n) + 1)
 #define ARB_STUDY_WORDS(n, runs) (ARB_HEADER_WORDS + (size_t)(runs) * ARB_SLOT_WORDS(n))
 
 /*
- * ANSWERS. Each call answers a uint64_t: accepted, or a refusal with a number and a place. The place is 0 unless the list says otherwise.
+ * ANSWERS (RULES 7). Each call answers a uint64_t: accepted, or a refusal with a number and a place. Where the list names no place it is 0.
  * An accepted arb_compare also has three counts. A node or a word at a place is counted from 0.
  */
 #define ARB_ACCEPTED(answer) (ARB_NUMBER(answer) == 0)
@@ -74,19 +76,19 @@ extern "C" {
 #define ARB_ONLY_SECOND(answer) ((unsigned)((answer) >> 48 & 65535u))
 
 enum arb_refusal {
-    ARB_REFUSAL_SAMPLES = 1,    /* n is outside 2 to 512 */
+    ARB_REFUSAL_SAMPLES = 1,    /* n is below 2 or above 512 */
     ARB_REFUSAL_STUDY = 2,      /* the study is not well formed: its words are not as written above, or its buffer has no room for one run */
-    ARB_REFUSAL_WORDS = 3,      /* a row or an output buffer is not 2n words; arb_open: the buffer has no room for one run */
+    ARB_REFUSAL_WORDS = 3,      /* a row or a buffer to be written has other than 2n words; arb_open: the buffer has no room for one run */
     ARB_REFUSAL_IDENTIFIER = 4, /* the identifier is 0 */
-    ARB_REFUSAL_NODES = 5,      /* m is outside n+1 to 2n-1 */
-    ARB_REFUSAL_PARENT = 6,     /* a sample's parent is not an inner node, or an inner node's is neither that nor 65535; place: the lowest such node */
-    ARB_REFUSAL_ROOT = 7,       /* the number of inner nodes with parent 65535 is not one */
-    ARB_REFUSAL_FILLER = 8,     /* filler is not 0; place: the lowest such word of the row */
-    ARB_REFUSAL_LOST = 9,       /* a node from which the parents never reach the root; place: the lowest such node */
-    ARB_REFUSAL_CHILDREN = 10,  /* an inner node with fewer than two children; place: the lowest such node */
-    ARB_REFUSAL_TAKEN = 11,     /* the identifier is already in force */
+    ARB_REFUSAL_NODES = 5,      /* m is not above n, or not below 2n */
+    ARB_REFUSAL_PARENT = 6,     /* a node has none of the inner nodes for its parent (an inner node may have 65535); place: the lowest such node */
+    ARB_REFUSAL_ROOT = 7,       /* of the inner nodes none, or more than one, has 65535 for its parent */
+    ARB_REFUSAL_FILLER = 8,     /* a word of the filler is not 0; place: the lowest word of which this is so */
+    ARB_REFUSAL_LOST = 9,       /* the way up from a node never comes to the root; place: the lowest node of which this is so */
+    ARB_REFUSAL_CHILDREN = 10,  /* an inner node has one child or none; place: the lowest node of which this is so */
+    ARB_REFUSAL_TAKEN = 11,     /* a run with this identifier is in force */
     ARB_REFUSAL_FULL = 12,      /* no room: as many runs are in force as the buffer holds, or 1024 */
-    ARB_REFUSAL_ABSENT = 13,    /* the identifier is not in force */
+    ARB_REFUSAL_ABSENT = 13,    /* no run with this identifier is in force */
     ARB_REFUSAL_EMPTY = 14      /* no run is in force */
 };
 
@@ -94,7 +96,7 @@ enum arb_refusal {
  * THE CALLS. Each makes the checks of the numbers named with it, in that order, and answers the first that fails.
  */
 
-/* Opening: makes the buffer, whatever its words, a study over n samples with no run in force; every word behind the header becomes 0.
+/* Opening: makes the buffer, whatever its words, a study over n samples with no run in force; every word after the header becomes 0.
    Refusals: 1, 3. */
 uint64_t arb_open(size_t n, uint16_t *study, size_t study_length);
 
@@ -118,9 +120,9 @@ uint64_t arb_judge(size_t n, const uint16_t *row, size_t row_length);
    Refusals: 1, 3 for either buffer, 5 to 10. */
 uint64_t arb_renumber(size_t n, const uint16_t *row, size_t row_length, uint16_t *out, size_t out_length);
 
-/* Comparing: how many groups are in both rows, only in the first, only in the second. All groups count, those of one sample and of all
-   samples too. Writes nothing.
-   Refusals: 1, 3 for either row, 5 to 10 for the first row, then 5 to 10 for the second, whose places all have 2n added, 5 and 7 too. */
+/* Comparing: how many groups both rows have, the first alone, and the second alone (RULES 8). Every group counts, those of one
+   sample and of all samples among them. Writes nothing.
+   Refusals: 1, 3 for either row, 5 to 10 for the first row, and 5 to 10 for the second with 2n added to the place, that of 5 and 7 too. */
 uint64_t arb_compare(size_t n, const uint16_t *first, size_t first_length, const uint16_t *second, size_t second_length);
 
 #ifdef __cplusplus

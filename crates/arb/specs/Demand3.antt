@@ -1,4 +1,4 @@
--- Demand 3, of calls that meet their promises: after any history the words are those of a fresh study given the runs in force. Assumes nothing.
+-- Demand 3 (RULES D3), of calls that meet their promises: after any history the words are those of a fresh study with the runs in force. Assumes nothing.
 use Prim.Native.Nat.{ℕ}
 use mathlib.Core.Path.{_≡_, refl, sym, ap, _∙_}
 use mathlib.Core.List.{List, [], _∷_, map}
@@ -40,7 +40,7 @@ made-answers w (c ∷ h) (a ∷ xs) z m =
 
 module _ (n : ℕ) (w fresh : List ℕ) (a b : Answer) (v u : List ℕ) (o : Leaves (opened n w) a v) (f : Leaves (opened n fresh) b u) (yes : verdict a ≡ accepted)
     (same : length fresh ≡ length w) where
-  -- a history on an opened study, and the runs in force given to a fresh one in any order, each as any row with its groups: the fresh one opens,
+  -- a history on an opened study, and the runs in force added to a fresh one in any order, each as any row with its groups: the fresh one opens,
   -- accepts each of them, and ends with the same words
   pub demand-3-calls : (h : List Call) (xs : List Answer) (z : List ℕ) → identified h ≡ true → Made v h xs z → (given : List Run) → Anew n w h given
       → (bs : List Answer) (y : List ℕ) → Made u (adds given) bs y → (verdict b ≡ accepted) × (every isAccepted (map verdict bs) ≡ true) × (y ≡ z)

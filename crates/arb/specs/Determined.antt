@@ -1,4 +1,4 @@
--- Each promise determines the call's answer and the words that it leaves: two results that satisfy it are equal. Assumes nothing.
+-- Each promise determines the call's answer and the words that it leaves: any two results that keep it are equal (RULES 12.1). Assumes nothing.
 use Prim.Native.Nat.{ℕ}
 use mathlib.Core.Path.{_≡_, sym, _∙_}
 use mathlib.Core.List.{List}

@@ -4,7 +4,7 @@ use mathlib.Core.Bool.{cond}
 use lib.Dec.{eqb}
 use Rattle.trees.specs.Checks.{Verdict, accepted, refused, counted}
 
--- how many numbers, places and counts a packed answer tells apart
+-- how many numbers, places and counts a packed answer can distinguish
 abbrev pub numbers : ℕ
 numbers = 256
 

@@ -11,7 +11,7 @@ ghost use Rattle.arb.specs.Packing.{packed};
 use compare::Comparison;
 use judge::Answer;
 
-// How many numbers, places and counts a packed answer tells apart.
+// How many numbers, places and counts a packed answer can distinguish.
 const NUMBERS: u64 = 256;
 
 const PLACES: u64 = 72057594037927936;

@@ -12,7 +12,7 @@ ghost use Rattle.compare.specs.Comparisons.{comparison};
 use compare::Comparison;
 use judge::Answer;
 
-// Opening: an empty study over n samples, in words of any content; or a refusal that leaves them as they were.
+// Opening (RULES 6.8): an empty study over n samples, in words of any content; or a refusal that leaves them as they were.
 pub fn open(n: usize, words: &mut [u16]) -> Answer
     ensures answer { λ r. ⌜ verdict r ≡ opened n (now (words .entry)) .verdict ⌝ }
     ensures words { λ _. ⌜ now (words .exit) ≡ opened n (now (words .entry)) .words ⌝ }
@@ -20,7 +20,7 @@ pub fn open(n: usize, words: &mut [u16]) -> Answer
     study::open(n, words)
 }
 
-// Adding: a run put into a study, its row in standard numbering; or a refusal that leaves the study as it was.
+// Adding: a run put into a study, its row in standard numbering (RULES 4.4); or a refusal that leaves the study as it was.
 pub fn add(words: &mut [u16], id: u16, row: &[u16]) -> Answer
     ensures answer { λ r. ⌜ verdict r ≡ added (now (words .entry)) id (now (row .entry)) .verdict ⌝ }
     ensures words { λ _. ⌜ now (words .exit) ≡ added (now (words .entry)) id (now (row .entry)) .words ⌝ }
@@ -28,7 +28,7 @@ pub fn add(words: &mut [u16], id: u16, row: &[u16]) -> Answer
     study::add(words, id, row)
 }
 
-// Withdrawing: a run taken out of a study; or a refusal that leaves the study as it was.
+// Withdrawing: a run taken out of a study (RULES D3); or a refusal that leaves the study as it was.
 pub fn withdraw(words: &mut [u16], id: u16) -> Answer
     ensures answer { λ r. ⌜ verdict r ≡ withdrawn (now (words .entry)) id .verdict ⌝ }
     ensures words { λ _. ⌜ now (words .exit) ≡ withdrawn (now (words .entry)) id .words ⌝ }
@@ -36,7 +36,7 @@ pub fn withdraw(words: &mut [u16], id: u16) -> Answer
     study::withdraw(words, id)
 }
 
-// Reporting: the agreed row and the support row of the runs in force; or a refusal that leaves both as they were. The study is not written.
+// Reporting (RULES 5): the agreed row and the support row of the runs in force; or a refusal that leaves both as they were. The study is only read.
 pub fn report(words: &[u16], agreed: &mut [u16], support: &mut [u16]) -> Answer
     ensures answer { λ r. ⌜ verdict r ≡ reported majority (now (words .entry)) (now (agreed .entry)) (now (support .entry)) .verdict ⌝ }
     ensures agreed { λ _. ⌜ now (agreed .exit) ≡ reported majority (now (words .entry)) (now (agreed .entry)) (now (support .entry)) .agreedRow ⌝ }
@@ -45,14 +45,14 @@ pub fn report(words: &[u16], agreed: &mut [u16], support: &mut [u16]) -> Answer
     report::report(words, agreed, support)
 }
 
-// Judging: whether a row is one tree over n samples, or the number and the place of what is wrong with it. It writes nothing.
+// Judging: whether a row is one tree over n samples, or the number and the place of what is wrong with it (RULES 7.5). No word changes.
 pub fn judge(n: usize, row: &[u16]) -> Answer
     ensures { λ r. ⌜ verdict r ≡ judged n (now (row .entry)) ⌝ }
 {
     judge::judge(n, row)
 }
 
-// Renumbering: a row in standard numbering, written to `out`; or a refusal that leaves `out` as it was.
+// Renumbering (RULES 4.4): a row in standard numbering, written to `out`; or a refusal that leaves `out` as it was.
 pub fn renumber(n: usize, row: &[u16], out: &mut [u16]) -> Answer
     ensures answer { λ r. ⌜ verdict r ≡ renumbering n (now (row .entry)) (now (out .entry)) .verdict ⌝ }
     ensures words { λ _. ⌜ now (out .exit) ≡ renumbering n (now (row .entry)) (now (out .entry)) .words ⌝ }
@@ -60,7 +60,7 @@ pub fn renumber(n: usize, row: &[u16], out: &mut [u16]) -> Answer
     row::renumber(n, row, out)
 }
 
-// Comparing: how many groups are in both rows, only in the first, only in the second; or a refusal. It writes nothing.
+// Comparing (RULES 8): how many groups both rows have, the first alone, and the second alone; or a refusal. No word changes.
 pub fn compare(n: usize, first: &[u16], second: &[u16]) -> Comparison
     ensures { λ r. ⌜ comparison r ≡ comparing n (now (first .entry)) (now (second .entry)) ⌝ }
 {

@@ -15,7 +15,7 @@ use Rattle.trees.specs.ValidLaws.{passed-valid}
 use Rattle.trees.specs.RowCallLaws.{movedVerdict, chain-moved}
 use Rattle.row.proofs.AnswerLaws.{second-words}
 
--- ---- a chain that refuses or accepts does so whatever comes behind it
+-- ---- a chain that refuses or accepts does so whatever comes after it
 
 module _ (cs : List Check) (v : Verdict) where
   refuses : (k p : ℕ) → cs ⊳ accepted ≡ refused k p → cs ⊳ v ≡ refused k p

@@ -1,4 +1,4 @@
-// Comparing two rows that are handed in.
+// Comparing two rows that are handed in (RULES 8).
 ghost use mathlib.Core.Path.{_≡_};
 ghost use mathlib.Core.Bool.{not};
 ghost use Prim.Native.Nat.{_≤_};
@@ -19,7 +19,7 @@ use passes::Table;
 use row::check_first;
 use row::renumber_valid;
 
-// "three counts: groups in both rows, only in the first, only in the second", or a refusal.
+// The groups that both rows have, those of the first alone and those of the second alone (RULES 8.1); or a refusal.
 pub enum Comparison {
     Counted(usize, usize, usize),
     Refused(usize, usize),
@@ -87,7 +87,7 @@ fn counts_valid(n: usize, first: &[u16], second: &[u16]) -> Comparison
     counts_by(n, first, second, &mut a[..w], &mut b[..w])
 }
 
-// Comparing: a refusal, of the second row with 2n added to its place, or the three counts.
+// Comparing: a refusal, of the second row with 2n added to its place (RULES 7.7), or the three counts.
 pub fn compare(n: usize, first: &[u16], second: &[u16]) -> Comparison
     ensures { λ r. ⌜ comparison r ≡ comparing n (now (first .entry)) (now (second .entry)) ⌝ }
 {

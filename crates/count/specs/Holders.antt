@@ -39,7 +39,7 @@ pub record Holding (n : ℕ) (rs : List Run) (q : List ℕ) (j : ℕ) (t : List 
   pub long : length t ≡ tableWords
   pub held : Tabled (holdersAt n (take j rs) q) n (nodes q) t
 
--- "a group is in the agreed tree exactly when twice the number of runs holding it is greater than k"
+-- whether `held` of k runs are more than half (RULES 5.1)
 abbrev pub isShown : ℕ → ℕ → Bool
 isShown k held = ltb k (2 * held)
 

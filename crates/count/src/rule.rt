@@ -8,7 +8,7 @@ use judge::wide;
 use passes::TABLE;
 use passes::Table;
 
-// "a group is in the agreed tree exactly when twice the number of runs holding it is greater than k. Exactly half is too few."
+// Whether `held` of k runs are more than half (RULES 5.1); half is not enough (RULES 5.2).
 fn is_shown(k: usize, held: u16) -> bool
     ensures { λ r. ⌜ r ≡ isShown k held ⌝ }
 {

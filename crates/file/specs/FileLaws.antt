@@ -40,7 +40,7 @@ factor-below n k =
     let h : 0 < 2 * n + 1 = omega arith in
     omega (arith, le-mul-of-pos-right (2 * k) h)
 
--- "worked out without loss for every n and k up to 65,535"
+-- exact whatever 16-bit values n and k have (RULES 9.3)
 pub bytes-fit : (n k : ℕ) → n < 65536 → k < 65536 → fileBytes n k < 2 ^ 63
 unfolding fileBytes
 bytes-fit n k h l =

@@ -1,4 +1,4 @@
--- The file that the listing program reads: when it is bad, its header and its slots.
+-- The file that the listing program reads (RULES 9.1): when it is bad (RULES 9.3), its header and its slots.
 use Prim.Native.Nat.{ℕ, suc, _+_, _*_}
 use mathlib.Core.List.{List, [], _∷_}
 use mathlib.Core.Bool.{Bool, true, false, _&&_, _||_, not, cond}
@@ -10,11 +10,11 @@ use Rattle.file.specs.Ascii.{ascii}
 use Rattle.file.specs.declared.File.{File}
 use Rattle.file.specs.declared.File.the-variants.{Bad, Good}
 
--- "16-bit numbers, low byte first"
+-- the number of 16 bits at a place, the low byte in front (RULES 9.1)
 unfoldable pub wordAt : List ℕ → ℕ → ℕ
 wordAt bytes i = getD bytes i 0 + 256 * getD bytes (suc i) 0
 
--- "the mark ARB, then as 16-bit numbers, low byte first, version 1, n, k"
+-- the version, n and k, which follow the mark, and how many bytes these four have (RULES 9.1)
 abbrev pub fileVersion : List ℕ → ℕ
 fileVersion bytes = wordAt bytes 3
 
@@ -27,11 +27,11 @@ fileRuns bytes = wordAt bytes 7
 abbrev pub headBytes : ℕ
 headBytes = 9
 
--- "Input file of the program: at most 65,529 bytes."
+-- how many bytes a file can have (RULES 1.5)
 abbrev pub mostBytes : ℕ
 mostBytes = 65529
 
--- "9 + 2k(2n+1)": the bytes of a file with k slots, and the place of slot k in one with more
+-- the bytes of a file with k slots (RULES 9.3), and the place of slot k in one with more
 unfoldable pub fileBytes : ℕ → ℕ → ℕ
 fileBytes n k = headBytes + 2 * k * (2 * n + 1)
 
@@ -41,17 +41,17 @@ begins [] bytes = true
 begins (x ∷ text) [] = false
 begins (x ∷ text) (y ∷ bytes) = eqb x y && begins text bytes
 
--- "fewer than 9 or more than 65,529 bytes, another mark or version, or a length other than 9 + 2k(2n+1)"
+-- whether a file is refused with 15: too short, too long, the wrong mark, the wrong version, or not as long as its n and k ask (RULES 9.3)
 unfoldable pub badFile : List ℕ → Bool
 badFile bytes =
     outside headBytes mostBytes (length bytes) || not (begins (ascii "ARB") bytes) || not (eqb (fileVersion bytes) 1)
     || not (eqb (length bytes) (fileBytes (fileSamples bytes) (fileRuns bytes)))
 
--- what a file is: bad, or good with its n and k
+-- what a file is: bad (RULES 9.3), or good with its n and k (RULES 9.1)
 unfoldable pub fileOf : List ℕ → File
 fileOf bytes = cond (badFile bytes) Bad (Good (fileSamples bytes) (fileRuns bytes))
 
--- "k slots of 2n+1 such numbers": "identifier, then the row"
+-- the identifier and the row of slot j (RULES 9.1)
 unfoldable pub slotIdentifier : List ℕ → ℕ → ℕ → ℕ
 slotIdentifier bytes n j = wordAt bytes (fileBytes n j)
 

@@ -1,4 +1,4 @@
--- Document 01's case: its file is good and has its three runs. Assumes nothing.
+-- The case of RULES 10: its file is good and has its three runs. Assumes nothing.
 use Prim.Native.Nat.{ℕ, _/_, _%_}
 use mathlib.Core.Path.{_≡_, refl}
 use mathlib.Core.List.{List, [], _∷_, _++_}
@@ -9,12 +9,12 @@ use Rattle.file.specs.declared.File.the-variants.{Good}
 use Rattle.file.specs.Ascii.{ascii}
 use Rattle.file.specs.Files.{wordAt, fileBytes, begins, badFile, fileOf, slotIdentifier, slotRow}
 
--- words as bytes, low byte first
+-- words as bytes, the low byte in front
 unfoldable pub bytesOf : List ℕ → List ℕ
 bytesOf [] = []
 bytesOf (w ∷ ws) = w % 256 ∷ w / 256 ∷ bytesOf ws
 
--- "n = 5, k = 3, 75 bytes"
+-- the three runs as a file (RULES 10)
 abbrev pub input : List ℕ
 input = ascii "ARB" ++ bytesOf ((1 ∷ 5 ∷ 3 ∷ []) ++ (1 ∷ row1) ++ (2 ∷ row2) ++ (3 ∷ row3))
 
@@ -22,7 +22,7 @@ pub specimen-file : fileOf input ≡ Good 5 3
 unfolding fileOf badFile begins wordAt fileBytes bytesOf
 specimen-file = refl
 
--- "a length other than 9 + 2k(2n+1)" is bad
+-- with a byte more it is bad (RULES 9.3)
 pub specimen-long : badFile (input ++ (0 ∷ [])) ≡ true
 unfolding badFile begins wordAt fileBytes bytesOf
 specimen-long = refl

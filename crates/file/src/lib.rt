@@ -1,4 +1,4 @@
-// The file that the listing program reads: whether it is bad, its n and k, and its slots.
+// The file that the listing program reads (RULES 9.1): whether it is bad (RULES 9.3), its n and k, and its slots.
 ghost use mathlib.Core.Path.{_≡_};
 ghost use Prim.Native.Nat.{_+_, _*_, _^_, _<_, _≤_};
 ghost use lib.Dec.{eqb};
@@ -7,7 +7,7 @@ ghost use Rattle.trees.specs.Checks.{rowWords};
 ghost use Rattle.file.specs.Files.{wordAt, fileSamples, fileRuns, headBytes, fileBytes, begins, badFile, fileOf, slotIdentifier, slotRow};
 use judge::wide;
 
-// "the mark ARB, then as 16-bit numbers, low byte first, version 1, n, k"
+// The version that is taken, where version, n and k stand after the mark, and where they end (RULES 9.1).
 pub const VERSION: u16 = 1;
 
 const VERSION_AT: usize = 3;
@@ -18,19 +18,19 @@ const RUNS_AT: usize = 7;
 
 const HEAD_BYTES: usize = 9;
 
-// A 16-bit number.
+// The bytes of a number of 16 bits.
 const WORD_BYTES: usize = 2;
 
-// "Input file of the program: at most 65,529 bytes."
+// The bytes that a file has at most (RULES 1.5).
 pub const MOST_BYTES: usize = 65529;
 
-// A file is refused with number 15, or has n samples and k runs.
+// A file is refused with 15, or has n samples and k runs.
 pub enum File {
     Bad,
     Good(usize, usize),
 }
 
-// A word is its low byte and so many times its high byte.
+// How many values a byte has: a word is its low byte, and its high byte times this.
 const HIGH: u16 = 256;
 
 // A byte as a word.
@@ -40,7 +40,7 @@ fn wide_byte(b: u8) -> u16
     b as u16
 }
 
-// The 16-bit number at a place, low byte first.
+// The number of 16 bits at a place, the low byte in front (RULES 9.1).
 fn word_at(bytes: &[u8], i: usize) -> u16
     requires { ⌜ i + 1 < length (now bytes) ⌝ }
     ensures { λ r. ⌜ r ≡ wordAt (now (bytes .entry)) i ⌝ }
@@ -65,7 +65,7 @@ fn begins(text: &[u8], bytes: &[u8]) -> bool
     true
 }
 
-// The bytes of a file with k slots, and the place of slot k in one with more.
+// The bytes of a file with k slots (RULES 9.3), and the place of slot k in one with more.
 fn file_bytes(n: usize, k: usize) -> usize
     requires { ⌜ (n < 2 ^ 62) × (fileBytes n k < 2 ^ 63) ⌝ }
     ensures { λ r. ⌜ r ≡ fileBytes n k ⌝ }
@@ -83,7 +83,7 @@ fn fitting(bytes: &[u8]) -> bool
     bytes.len() == file_bytes(n, k)
 }
 
-// Refusal 15.
+// Whether the file is refused with 15 (RULES 9.3).
 fn is_bad(bytes: &[u8]) -> bool
     ensures { λ r. ⌜ r ≡ badFile (now (bytes .entry)) ⌝ }
 {
@@ -107,7 +107,7 @@ pub fn file_of(bytes: &[u8]) -> File
     )
 }
 
-// The identifier of slot j.
+// The identifier of slot j (RULES 9.1).
 pub fn identifier_of(bytes: &[u8], n: usize, j: usize) -> u16
     requires { ⌜ fileBytes n (j + 1) ≤ length (now bytes) ⌝ }
     ensures { λ r. ⌜ r ≡ slotIdentifier (now (bytes .entry)) n j ⌝ }
@@ -115,7 +115,7 @@ pub fn identifier_of(bytes: &[u8], n: usize, j: usize) -> u16
     word_at(bytes, file_bytes(n, j))
 }
 
-// The row of slot j.
+// The row of slot j (RULES 9.1).
 pub fn row_into(bytes: &[u8], n: usize, j: usize, row: &mut [u16])
     requires { ⌜ fileBytes n (j + 1) ≤ length (now bytes) ⌝ }
     requires { ⌜ length (now row) ≡ rowWords n ⌝ }

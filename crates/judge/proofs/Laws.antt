@@ -1,4 +1,4 @@
--- How an answer passes along a chain of checks, and what an acceptance tells the later checks. Assumes nothing.
+-- How an answer passes along a chain of checks, and what the later checks know from an acceptance. Assumes nothing.
 use Prim.Native.Nat.{ℕ, _+_, _-_, _≤_, _<_}
 use mathlib.Core.Path.{_≡_, sym, ap, _∙_}
 use mathlib.Core.List.{List, _∷_}
@@ -24,7 +24,7 @@ module _ (r : Answer) (c : Check) (e : verdict r ≡ asked c) where
   pub goes : (cs : List Check) → r ≡ Accepted → cs ⊳ accepted ≡ (c ∷ cs) ⊳ accepted
   goes cs q = sym (chain-go c cs accepted (sym e ∙ ap verdict q))
 
--- ---- what an acceptance tells the later checks
+-- ---- what the later checks know from an acceptance
 
 passes : (r : Answer) (c : Check) → verdict r ≡ asked c → r ≡ Accepted → c .fault ≡ nowhere
 passes r c e q = asked-passes c (sym e ∙ ap verdict q)

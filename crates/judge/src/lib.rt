@@ -1,4 +1,4 @@
-// Judging a row: checks 1, 3 and 5 to 10 of document 01's table, each a function, and their order.
+// Judging a row: checks 1, 3 and 5 to 10 (RULES 7.5), each a function, and their order.
 ghost use mathlib.Core.Path.{_≡_};
 ghost use Prim.Native.Nat.{ℕ, _+_, _<_, _≤_};
 ghost use lib.ListN.{length};
@@ -10,13 +10,13 @@ ghost use Rattle.trees.specs.RowCalls.{check3Both};
 ghost use Rattle.trees.specs.WayLaws.{Closed};
 ghost use Rattle.judge.specs.Verdicts.{verdict};
 
-// "A refusal is a number and a place."
+// Acceptance, or the number and the place of a refusal (RULES 7.1).
 pub enum Answer {
     Accepted,
     Refused(usize, usize),
 }
 
-// The numbers of the refusals.
+// The numbers of the refusals (RULES 7.5).
 pub struct Refusal;
 
 impl Refusal {
@@ -49,15 +49,15 @@ impl Refusal {
     pub const EMPTY: usize = 14;
 }
 
-// "Samples n: 2 to 512"
+// How few samples there can be, and how many (RULES 1.1).
 pub const FEWEST_SAMPLES: usize = 2;
 
 pub const MOST_SAMPLES: usize = 512;
 
-// "65535 means that v is the root"
+// What the root has in place of a parent (RULES 2.2).
 pub const ROOT_MARK: usize = 65535;
 
-// "an inner node with fewer than two children" is refused
+// The children that an inner node has at least (check 10, RULES 7.5).
 const FEWEST_CHILDREN: usize = 2;
 
 // A word as a count or an index.
@@ -67,7 +67,7 @@ pub fn wide(x: u16) -> usize
     x as usize
 }
 
-// The number of nodes: "Word 0 is m."
+// The number of nodes (RULES 2.1).
 pub fn nodes(row: &[u16]) -> usize
     requires { ⌜ 0 < length (now row) ⌝ }
     ensures { λ r. ⌜ r ≡ nodes (now (row .entry)) ⌝ }
@@ -75,7 +75,7 @@ pub fn nodes(row: &[u16]) -> usize
     wide(row[0])
 }
 
-// The parent of node v: "Word 1+v is the parent of node v".
+// The parent of node v (RULES 2.2).
 pub fn parent(row: &[u16], v: usize) -> usize
     requires { ⌜ v + 1 < length (now row) ⌝ }
     ensures { λ r. ⌜ r ≡ parent (now (row .entry)) v ⌝ }
@@ -83,7 +83,7 @@ pub fn parent(row: &[u16], v: usize) -> usize
     wide(row[v + 1])
 }
 
-// A line of the table whose place is 0: refused with its number where it applies.
+// A check whose place is 0 (RULES 7.3): refused with its number where it applies.
 pub fn line(number: usize, applies: bool) -> Answer
     ensures { λ r. ⌜ verdict r ≡ asked (line number applies) ⌝ }
 {
@@ -93,14 +93,14 @@ pub fn line(number: usize, applies: bool) -> Answer
     Answer::Accepted
 }
 
-// Check 1: "n outside 2 to 512".
+// Check 1: the number of samples is out of range (RULES 7.5).
 pub fn samples(n: usize) -> Answer
     ensures { λ r. ⌜ verdict r ≡ asked (check1 n) ⌝ }
 {
     line(Refusal::SAMPLES, (n < FEWEST_SAMPLES) | (MOST_SAMPLES < n))
 }
 
-// Check 3: "a row .. is not 2n words".
+// Check 3: a row has the wrong length (RULES 7.5).
 pub fn words(n: usize, row: &[u16]) -> Answer
     requires { ⌜ n ≤ mostSamples ⌝ }
     ensures { λ r. ⌜ verdict r ≡ asked (check3 n (now (row .entry))) ⌝ }
@@ -108,7 +108,7 @@ pub fn words(n: usize, row: &[u16]) -> Answer
     line(Refusal::WORDS, row.len() != 2 * n)
 }
 
-// Check 3 of two buffers: "a row or output buffer is not 2n words".
+// Check 3 of two buffers: one of them has the wrong length (RULES 7.5).
 pub fn words_both(n: usize, first: &[u16], second: &[u16]) -> Answer
     requires { ⌜ n ≤ mostSamples ⌝ }
     ensures { λ r. ⌜ verdict r ≡ asked (check3Both n (now (first .entry)) (now (second .entry))) ⌝ }
@@ -119,7 +119,7 @@ pub fn words_both(n: usize, first: &[u16], second: &[u16]) -> Answer
     )
 }
 
-// Check 5: "m outside n+1 to 2n-1".
+// Check 5: the number of nodes is out of range (RULES 7.5).
 fn nodes_in_range(n: usize, row: &[u16]) -> Answer
     requires { ⌜ (fewestSamples ≤ n) × (n ≤ mostSamples) × (0 < length (now row)) ⌝ }
     ensures { λ r. ⌜ verdict r ≡ asked (check5 n (now (row .entry))) ⌝ }
@@ -128,14 +128,14 @@ fn nodes_in_range(n: usize, row: &[u16]) -> Answer
     line(Refusal::NODES, (m < n + 1) | (2 * n - 1 < m))
 }
 
-// Whether p is wrong as v's parent: "a leaf's parent is not an inner node, or an inner node's is neither that nor 65535".
+// Whether p is wrong as the parent of v: not an inner node, nor, where v is one, the root's mark.
 fn stray(n: usize, m: usize, v: usize, p: usize) -> bool
     ensures { λ r. ⌜ r ≡ stray n m v p ⌝ }
 {
     !((n <= p) & (p < m) | (n <= v) & (p == ROOT_MARK))
 }
 
-// Check 6: a node whose parent is astray, at the "lowest such node".
+// Check 6: a wrong parent, at the lowest node that has one (RULES 7.5).
 fn parents(n: usize, row: &[u16]) -> Answer
     requires { ⌜ nodes (now row) < length (now row) ⌝ }
     ensures { λ r. ⌜ verdict r ≡ asked (check6 n (now (row .entry))) ⌝ }
@@ -169,7 +169,7 @@ fn children(row: &[u16], a: usize, p: usize) -> usize
     found
 }
 
-// Check 7: "the number of inner nodes with parent 65535 is not one".
+// Check 7: no root among the inner nodes, or more than one (RULES 7.5).
 fn roots(n: usize, row: &[u16]) -> Answer
     requires { ⌜ nodes (now row) < length (now row) ⌝ }
     ensures { λ r. ⌜ verdict r ≡ asked (check7 n (now (row .entry))) ⌝ }
@@ -177,7 +177,7 @@ fn roots(n: usize, row: &[u16]) -> Answer
     line(Refusal::ROOT, children(row, n, ROOT_MARK) != 1)
 }
 
-// Check 8: "filler not 0", at the "lowest such word".
+// Check 8: a word after the last node's that is not 0, the lowest of them (RULES 7.5).
 pub fn filler(n: usize, row: &[u16]) -> Answer
     requires { ⌜ (nodes (now row) < length (now row)) × (length (now row) ≡ rowWords n) ⌝ }
     ensures { λ r. ⌜ verdict r ≡ asked (check8 n (now (row .entry))) ⌝ }
@@ -192,7 +192,7 @@ pub fn filler(n: usize, row: &[u16]) -> Answer
     Answer::Accepted
 }
 
-// Whether the parents reach the root from v, in as many steps as there are nodes.
+// Whether the way up from v comes to the root, in as many steps as there are nodes.
 fn ends(row: &[u16], v: usize) -> bool
     requires { ⌜ (nodes (now row) < length (now row)) × Closed (nodes (now row)) (now row) × (v < nodes (now row)) ⌝ }
     ensures { λ r. ⌜ r ≡ ends (nodes (now (row .entry))) (now (row .entry)) v ⌝ }
@@ -210,7 +210,7 @@ fn ends(row: &[u16], v: usize) -> bool
     false
 }
 
-// Check 9: "a node from which the parents never reach the root", at the "lowest such node".
+// Check 9: the lowest node whose way up never comes to the root (RULES 7.5).
 fn climbing(row: &[u16]) -> Answer
     requires { ⌜ (nodes (now row) < length (now row)) × Closed (nodes (now row)) (now row) ⌝ }
     ensures { λ r. ⌜ ((n : ℕ) → verdict r ≡ asked (check9 n (now (row .entry)))) ⌝ }
@@ -226,7 +226,7 @@ fn climbing(row: &[u16]) -> Answer
     Answer::Accepted
 }
 
-// Check 10: "an inner node with fewer than two children", at the "lowest such node".
+// Check 10: the lowest inner node with one child or none (RULES 7.5).
 fn branching(n: usize, row: &[u16]) -> Answer
     requires { ⌜ nodes (now row) < length (now row) ⌝ }
     ensures { λ r. ⌜ verdict r ≡ asked (check10 n (now (row .entry))) ⌝ }
@@ -242,7 +242,7 @@ fn branching(n: usize, row: &[u16]) -> Answer
     Answer::Accepted
 }
 
-// Checks 5 to 10, of a row of the right length for n: the first that applies is the answer.
+// Checks 5 to 10, of a row of the right length for n: the first that applies is the answer (RULES 7.2).
 pub fn check_row(n: usize, row: &[u16]) -> Answer
     requires { ⌜ (fewestSamples ≤ n) × (n ≤ mostSamples) × (length (now row) ≡ rowWords n) ⌝ }
     ensures { λ r. ⌜ verdict r ≡ rowChecks n (now (row .entry)) ⊳ accepted ⌝ }
@@ -270,7 +270,7 @@ pub fn check_row(n: usize, row: &[u16]) -> Answer
     branching(n, row)
 }
 
-// Judging, checks 1, 3 and 5 to 10: the first that applies is the answer.
+// Judging, checks 1, 3 and 5 to 10: the first that applies is the answer (RULES 7.2).
 pub fn judge(n: usize, row: &[u16]) -> Answer
     ensures { λ r. ⌜ verdict r ≡ judged n (now (row .entry)) ⌝ }
 {

@@ -60,7 +60,7 @@ module _ (n k : ℕ) (row support : List ℕ) where
 
 -- ---- a listed tree
 
--- the file's slots as adds, and the study that was given them
+-- the file's slots as adds, and the study after them
 abbrev pub fileCalls : List ℕ → ℕ → ℕ → List Call
 fileCalls bytes n k = tabulate k (slotCall bytes n) 0
 

@@ -1,4 +1,4 @@
--- Each slot's answer decides, or the rest does; what the code tells stands for what is listed; the lines by number. Assumes nothing.
+-- Each slot's answer decides, or the rest does; what the code makes of a file stands for what is listed; the lines by number. Assumes nothing.
 use Prim.Native.Nat.{ℕ, zero, suc, _+_, _-_, _≤_, _<_}
 use mathlib.Core.Path.{_≡_, refl, sym, ap, subst, _∙_}
 use mathlib.Core.List.{List, [], _∷_, _++_}
@@ -45,9 +45,9 @@ module _ (n k : ℕ) (w : List ℕ) (call : ℕ → Call) (j : ℕ) where
   unfolding addsAndReports firstRefused answers after tabulate
   adds-end h = let e : k - j ≡ 0 = omega arith in rw e refl
 
--- ---- what the code tells
+-- ---- what the code makes of an answer
 
--- a refusal is told, and nothing comes next
+-- a refusal is passed on, and nothing comes next
 pub told-stops : (a : Answer) (slot n k : ℕ) {x y z : ℕ} (next : Listed) (w : List ℕ) → toldOf a slot n k ≡ Refused x y z
     → (goesOn (toldOf a slot n k) w ≡ unless (verdict a) slot next) × Loaded (toldOf a slot n k) w
 told-stops Accepted slot n k next w e = let q : _≡_ {A = ℕ} 0 1 = cc in absurd (omega arith)
@@ -160,7 +160,7 @@ module _ (n k : ℕ) (row support : List ℕ) where
   tree-next (suc i) h l = let e : n + suc i - 1 ≡ n + i = omega arith in
       getD-tabulate (nodes row - n) (nodeLine n row support) n i [] (omega (arith, tree-count)) ∙ rw e
 
--- ---- the lines of what is told
+-- ---- the lines of what the code makes of a file
 
 pub refused-line : {t : Told} {x y z : ℕ} (i : ℕ) (a s : List ℕ) → t ≡ Refused x y z → i < length (linesOf (shows t a s))
     → getD (linesOf (shows t a s)) i [] ≡ refusalLine x y z
@@ -170,7 +170,7 @@ refused-line {t} {x} {y} {z} i a s e h = ap (λ (u : Told). getD (linesOf (shows
     go zero l = refl
     go (suc j) l = absurd (omega arith)
 
--- word 0 of a row at the front of a buffer
+-- the number of nodes of a row at the front of a buffer
 front-nodes : (n : ℕ) (a : List ℕ) → fewestSamples ≤ n → nodes (take (rowWords n) a) ≡ nodes a
 unfolding nodes
 front-nodes n a h = getD-take (rowWords n) a 0 0 (omega arith)
@@ -208,7 +208,7 @@ ready-kept w e = subst (λ (u : Told). Loaded u w) e
 pub ready-listed : {t : Told} {n k : ℕ} (w : List ℕ) (r : Listed) → t ≡ Ready n k → goesOn t w ≡ r → reports n k w ≡ r
 ready-listed w r e = subst (λ (u : Told). goesOn u w ≡ r) e
 
--- what stands behind the rows is not shown
+-- what stands after the rows is not shown
 pub shows-front : (t : Told) (a s u v : List ℕ) → Printable t a s → (shows t (a ++ u) (s ++ v) ≡ shows t a s) × Printable t (a ++ u) (s ++ v)
 shows-front (Refused x y z) a s u v p = (refl, tt)
 shows-front (Ready n k) a s u v p =

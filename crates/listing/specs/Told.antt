@@ -1,4 +1,4 @@
--- What the code tells of a file, and what it stands for.
+-- What the code makes of a file, and what it stands for.
 use Prim.Native.Nat.{ℕ, _≤_}
 use mathlib.Core.Path.{_≡_}
 use mathlib.Core.List.{List}

@@ -1,4 +1,4 @@
-// The lines of the listing, one by one.
+// The lines of the listing (RULES 9.4 to 9.7), one by one.
 ghost use mathlib.Core.Path.{_≡_};
 ghost use mathlib.Core.List.{[]};
 ghost use Prim.Native.Nat.{_<_, _≤_};

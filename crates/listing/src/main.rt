@@ -1,5 +1,5 @@
-// Lists the agreed tree of a file: standard input holds the file, and standard output gets the lines. `told` knows what a file
-// comes to, `lines` what each line is; here bytes are only moved.
+// Lists the agreed tree of a file (RULES 9): standard input holds the file, and standard output gets the lines. `told` knows what
+// a file comes to, `lines` what each line is; here bytes are only moved.
 mod lines;
 mod told;
 
@@ -12,14 +12,14 @@ ghost use Rattle.listing.specs.Told.{shows, Printable};
 use told::STUDY_WORDS;
 use told::Told;
 
-// A file of "more than 65,529 bytes" shows: the buffer takes more.
+// The buffer takes more bytes than a file can have (RULES 1.5), so that a file that is too long is noticed.
 fn main() {
     let mut bytes = io::large_buffer();
     let got = io::read_full(libc::STDIN_FILENO, &mut bytes);
     list(&bytes[..got]);
 }
 
-// "It opens a study of 32,768 words".
+// Words for the study (RULES 9.2).
 fn study_room() -> [u16; STUDY_WORDS]
     ensures { λ r. ⌜ studyWords ≡ length r ⌝ }
 {

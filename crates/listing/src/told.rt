@@ -1,4 +1,4 @@
-// What a file comes to: its slots added to a study in file order, and the report.
+// What a file comes to: its slots added to a study as they stand, and the report (RULES 9.2).
 ghost use mathlib.Core.Path.{_≡_};
 ghost use Prim.Native.Nat.{_+_, _≤_};
 ghost use lib.ListN.{length};
@@ -19,15 +19,15 @@ use report::report_formed;
 use study::add_formed;
 use study::open;
 
-// "program: bad file"
+// The number of a bad file (check 15, RULES 7.5).
 const BAD_FILE: usize = 15;
 
-// "No program buffer is above 64 KiB": 32,768 words, and twice 512 for a row.
+// The words of the study (RULES 9.2) and of the longest row; neither has more than 64 KiB (RULES 1.6).
 pub const STUDY_WORDS: usize = 32768;
 
 pub const ROW_ROOM: usize = 1024;
 
-// A refusal's number, slot and place; or the study's n and k, when there is none.
+// A refusal's number, slot and place (RULES 9.7); or the study's n and k, when nothing was refused.
 pub enum Told {
     Refused(usize, usize, usize),
     Ready(usize, usize),
@@ -40,7 +40,7 @@ pub fn row_room() -> [u16; ROW_ROOM]
     [0; ROW_ROOM]
 }
 
-// What an answer to a call for a slot tells.
+// What an answer to a call for a slot comes to.
 fn told_of(answer: Answer, slot: usize, n: usize, k: usize) -> Told
     ensures { λ r. ⌜ r ≡ toldOf answer slot n k ⌝ }
 {
@@ -72,7 +72,7 @@ fn add_slot(bytes: &[u8], n: usize, j: usize, words: &mut [u16]) -> Answer
     add_row(bytes, n, j, words, &mut row[..2 * n])
 }
 
-// "adds the slots in file order", up to the first that is refused.
+// Adds slot after slot as they stand in the file (RULES 9.2), up to the first that is refused.
 fn add_slots(bytes: &[u8], n: usize, k: usize, words: &mut [u16]) -> Told
     requires { ⌜ Kept studyWords n (now words) × (fileBytes n k ≤ length (now bytes)) ⌝ }
     ensures { λ r. ⌜ goesOn r (now (words .exit)) ≡ addsAndReports n k (now (words .entry)) (tabulate k (slotCall (now (bytes .entry)) n) 0) 0 ⌝ }

@@ -42,7 +42,7 @@ fn next_kept(keep: &[bool; TABLE], v: usize, m: usize) -> usize
     u
 }
 
-// The rank of node v, and behind the last node a number greater than every rank.
+// The rank of node v, and after the last node a number greater than every rank.
 fn rank_or_end(n: usize, m: usize, sizes: &Table, lows: &Table, v: usize) -> usize
     requires { ⌜ (n ≤ mostSamples) × (m ≤ tableWords) × (v < m → entry (now sizes) v ≤ n) ⌝ }
     ensures { λ r. ⌜ r ≡ rankOrEnd n m (now (sizes .entry)) (now (lows .entry)) v ⌝ }
@@ -60,7 +60,7 @@ struct Choice {
     low: u16,
 }
 
-// Of two nodes of these ranks that of the smaller takes the next number, and both do where they are equal.
+// Of two nodes of these ranks the one of smaller rank takes the next number, and both do where ranks are equal.
 fn choose(p: usize, q: usize) -> Choice
     ensures { λ r. ⌜ Chosen p q (r .first) (r .second) (r .low) ⌝ }
 {
@@ -101,7 +101,7 @@ fn choose_next(
     )
 }
 
-// Gives node v the number c if it is taken, and tells the next node that is to have one.
+// If `taken`, gives node v the number c and answers the next node that is kept; otherwise answers v.
 fn give(num: &mut Table, keep: &[bool; TABLE], v: usize, m: usize, c: usize, taken: bool) -> usize
     requires { ⌜ (length (now num) ≡ tableWords) × (m ≤ tableWords) × (c < tableWords) × (taken ≡ true → v < m) ⌝ }
     ensures { λ r. ⌜ Given (now (num .entry)) (now (keep .entry)) v m c taken (now (num .exit)) r ⌝ }
@@ -113,7 +113,7 @@ fn give(num: &mut Table, keep: &[bool; TABLE], v: usize, m: usize, c: usize, tak
     next_kept(keep, v + 1, m)
 }
 
-// Numbers the kept groups of both rows from n in their common order, with each number's smallest sample, and tells the first number that is left.
+// Numbers the kept groups of both rows from n in their common order, with each number's smallest sample, and answers the first number that is left.
 fn lockstep(
     n: usize,
     a: &[u16],
@@ -242,7 +242,7 @@ fn climb(n: usize, row: &[u16], up: &Table, i: usize, v: usize) -> usize
     u
 }
 
-// Moves the place of sample s up to the first node that has a number below i, and tells that number.
+// Moves the place of sample s up to the first node that has a number below i, and answers that number.
 fn lift(
     n: usize,
     row: &[u16],

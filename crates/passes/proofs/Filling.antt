@@ -7,7 +7,7 @@ use lib.ListN.{length, set, length-set}
 use Rattle.trees.specs.Tables.{Tabled}
 use Rattle.trees.specs.TableLaws.{tabled-more, tabled-none}
 
--- of the entries from a to below b those below v are done, in a table of so many words
+-- of the entries from a to below b those below v are done, and the table is as long as it should be
 pub record Filling (f : ℕ → ℕ) (a b words v : ℕ) (t : List ℕ) : Type 0 where
   pub high : v ≤ b
   pub long : length t ≡ words

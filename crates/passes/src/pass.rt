@@ -159,7 +159,7 @@ pub fn ranks(n: usize, row: &[u16], size: &mut Table, off: &mut Table, low: &mut
     least(n, row, &key, low);
 }
 
-// The place of a node in standard order: by falling size, then by rising smallest sample.
+// The rank of a node in standard order, as one number that rises: the size weighs most, then the smallest sample (RULES 4.1).
 pub fn rank(n: usize, size: &Table, low: &Table, v: usize) -> usize
     requires { ⌜ (v < tableWords) × (n ≤ mostSamples) × (getD (now size) v 0 ≤ n) ⌝ }
     ensures { λ r. ⌜ r ≡ rankOf n (getD (now (size .entry)) v 0) (getD (now (low .entry)) v 0) ⌝ }

@@ -50,7 +50,7 @@ fn falling(n: usize, row: &[u16]) -> bool
     true
 }
 
-// Whether the words after those of the nodes are 0.
+// Whether the words after those of the nodes are 0 (RULES 2.3).
 fn filler_zero(n: usize, row: &[u16]) -> bool
     requires { ⌜ (length (now row) ≡ rowWords n) × (nodes (now row) < rowWords n) ⌝ }
     ensures { λ r. ⌜ r ≡ fillerZero n (now (row .entry)) ⌝ }
@@ -89,7 +89,7 @@ fn ranked(n: usize, row: &[u16]) -> bool
     (SMALLEST <= size[last]) & rising(n, last, &size, &low)
 }
 
-// Whether a row is valid and in standard numbering. It counts no children: ranks that rise, and two samples in the last node, imply two each.
+// Whether a row is valid and in standard numbering (RULES 4). It counts no children: ranks that rise, and two samples in the last node, imply two each.
 pub fn is_standard(n: usize, row: &[u16]) -> bool
     requires { ⌜ (fewestSamples ≤ n) × (n ≤ mostSamples) × (length (now row) ≡ rowWords n) ⌝ }
     ensures { λ r. ⌜ r ≡ standard n (now (row .entry)) ⌝ }

@@ -13,7 +13,7 @@ use Rattle.replay.specs.declared.calls.Reply.{Reply}
 abbrev pub headOf : List ℕ → Head
 headOf s = record { op = getD s 0 0; x = getD s 1 0; y = getD s 2 0; la = getD s 3 0; lb = getD s 4 0; lc = getD s 5 0 }
 
--- a reply that counts nothing
+-- a reply without counts
 abbrev pub plainReply : ℕ → ℕ → Reply
 plainReply number place = record { number = number; place = place; c1 = 0; c2 = 0; c3 = 0 }
 

@@ -133,7 +133,7 @@ fn reply_to(answer: Answer) -> Reply
     }
 }
 
-// The reply with a number and a place that counts nothing.
+// The reply with a refusal's number and place, and no counts.
 fn plain_reply(number: usize, place: usize) -> Reply
     ensures { λ r. ⌜ r ≡ plainReply number place ⌝ }
 {

@@ -3,7 +3,7 @@ use crate::words::fill_bytes;
 use crate::words::fill_words;
 ghost use Rattle.replay.specs.Words.{Short, Roomy};
 
-// Fills words from the input, and says whether there were so many.
+// Fills words from the input, and says whether there were enough of them.
 pub fn read_words(words: &mut [u16], bytes: &mut [u8]) -> bool
     requires { ⌜ Short (now words) × Roomy (now bytes) ⌝ }
 {

@@ -4,7 +4,7 @@ ghost use mathlib.Core.Path.{_≡_};
 ghost use lib.ListN.{length};
 ghost use Rattle.replay.specs.Words.{mostWords, bytesOf, wordsOf, wordAt, wordPut};
 
-// A word is its low byte and so many times its high byte.
+// How many values a byte has: a word is its low byte, and its high byte times this.
 const HIGH: u16 = 256;
 
 // Words that a buffer has at most.

@@ -7,10 +7,10 @@ use Rattle.trees.specs.Checks.{Check, line}
 use Rattle.trees.specs.RowCalls.{check3Both}
 use Rattle.trees.specs.Tables.{entry}
 
--- the checks of a report over n samples with k runs in force
+-- checks 3 and 14 of a report over n samples with k runs in force (RULES 7.5)
 abbrev pub givenChecks : ℕ → ℕ → List ℕ → List ℕ → List Check
 givenChecks n k a s = check3Both n a s ∷ line 14 (eqb k 0) ∷ []
 
--- "word 0 is k, word 1+v is the number of runs holding the group of node v, and filler is 0": k of the single samples, by a table of inner nodes
+-- word w of the support row (RULES 5.5), by a table of the inner nodes: k runs hold the single samples
 abbrev pub supportWord : ℕ → ℕ → ℕ → List ℕ → ℕ → ℕ
 supportWord n m k holders w = cond (ltb m w) 0 (cond (leb w n) k (entry holders (w - 1)))

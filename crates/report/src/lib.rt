@@ -1,4 +1,4 @@
-// The report of a study: its checks, the agreed row and the support row.
+// The report of a study: its checks, the agreed row (RULES 5.4) and the support row (RULES 5.5).
 ghost use mathlib.Core.Path.{_≡_};
 ghost use Prim.Native.Nat.{_<_, _≤_};
 ghost use lib.Dec.{eqb};
@@ -25,14 +25,14 @@ use slots::in_force;
 use slots::samples;
 use study::study_given;
 
-// Check 14: "report: k is 0".
+// Check 14: no run is in force (RULES 7.5).
 fn runs_given(k: usize) -> Answer
     ensures { λ r. ⌜ verdict r ≡ asked (line 14 (eqb k 0)) ⌝ }
 {
     line(Refusal::EMPTY, k == 0)
 }
 
-// Checks 3 and 14, over n samples with k runs in force.
+// Checks 3 and 14, over n samples with k runs in force (RULES 7.5).
 fn report_given(n: usize, k: usize, agreed: &[u16], support: &[u16]) -> Answer
     requires { ⌜ n ≤ mostSamples ⌝ }
     ensures { λ r. ⌜ verdict r ≡ givenChecks n k (now (agreed .entry)) (now (support .entry)) ⊳ accepted ⌝ }
@@ -44,7 +44,7 @@ fn report_given(n: usize, k: usize, agreed: &[u16], support: &[u16]) -> Answer
     runs_given(k)
 }
 
-// Word w of the support row of a row of m nodes, by the holders of its inner groups: each run holds the single samples.
+// Word w of the support row of a row of m nodes (RULES 5.5), by the holders of its inner groups: each run holds the single samples.
 fn support_word(n: usize, m: usize, k: usize, holders: &Table, w: usize) -> u16
     requires { ⌜ (m ≤ tableWords) × (k ≤ mostRuns) ⌝ }
     ensures { λ r. ⌜ r ≡ supportWord n m k (now (holders .entry)) w ⌝ }

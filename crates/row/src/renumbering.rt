@@ -6,7 +6,7 @@ ghost use Rattle.judge.specs.Verdicts.{verdict};
 use crate::standard::renumber_valid;
 use judge::Answer;
 
-// Checks 1, 3 of both buffers and 5 to 10 of the first: the first that applies is the answer.
+// Checks 1, 3 of both buffers and 5 to 10 of the first: the first that applies is the answer (RULES 7.2).
 pub fn check_first(n: usize, first: &[u16], second: &[u16]) -> Answer
     ensures { λ r. ⌜ verdict r ≡ renumberChecks n (now (first .entry)) (now (second .entry)) ⊳ accepted ⌝ }
 {

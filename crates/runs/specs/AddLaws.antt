@@ -138,7 +138,7 @@ module _ (w : List ℕ) (i : ℕ) (row : List ℕ) where
     pub added-find : (j : ℕ) → find j (runs (added w i row .words)) ≡ cond (eqb j i) (some (stores (samples w) i row)) (find j (runs w))
     added-find j = rw added-runs (with-find w i row (a .absent) j)
 
--- FROM DEMAND 2: an accepted run is stored under its identifier, with exactly the groups it came with
+-- FROM DEMAND 2: an accepted run is stored under its identifier, with exactly the groups it came with (RULES D2)
 pub added-stored : (w : List ℕ) (i : ℕ) (row : List ℕ) → i ≤ mostIdentifier → added w i row .verdict ≡ accepted
     → (find i (runs (added w i row .words)) ≡ some (stores (samples w) i row)) × SameGroups (samples w) (renumbered (samples w) row) row
 added-stored w i row l e =

@@ -1,4 +1,4 @@
--- What a call keeps of a study, and opening: when a number is given, what a refusal leaves, and that the study is well formed. Assumes nothing.
+-- What a call keeps of a study, and opening: when it refuses with a number, what a refusal leaves, and that the study is well formed. Assumes nothing.
 use Prim.Native.Nat.{ℕ, _≤_}
 use mathlib.Core.Path.{_≡_, refl, _∙_}
 use mathlib.Core.Logic.{_↔_}
@@ -80,6 +80,6 @@ module _ (n : ℕ) (w : List ℕ) where
   pub opened-kept : opened n w .verdict ≡ accepted → Kept (length w) n (opened n w .words)
   opened-kept e = rw (opened-words e) (room-kept (length w) n [] (opened-room (opened-accepts .0 e)))
 
-  -- "Opening .. leaves k = 0."
+  -- an accepted opening leaves no run in force (RULES 6.8)
   pub opened-none : opened n w .verdict ≡ accepted → runs (opened n w .words) ≡ []
   opened-none e = rw (opened-words e) (room-runs (length w) n [] (opened-room (opened-accepts .0 e)))

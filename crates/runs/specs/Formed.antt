@@ -1,4 +1,4 @@
--- When a study is well formed: the test, and what it means.
+-- When a study is well formed (RULES 6.7): the test, and what it means.
 use Prim.Native.Nat.{ℕ, _≤_, _<_}
 use mathlib.Core.Path.{_≡_}
 use mathlib.Core.List.{List, [], _∷_, List·Memᴰ}
@@ -18,38 +18,37 @@ sameWords [] (y ∷ ys) = false
 sameWords (x ∷ xs) [] = false
 sameWords (x ∷ xs) (y ∷ ys) = eqb x y && sameWords xs ys
 
--- mark, version, n, k and two zeros
+-- mark, version, n, k and two zeros (RULES 6.1, 6.2)
 abbrev pub headed : List ℕ → Bool
 headed w = sameWords (take headerWords w) (header (samples w) (inForce w))
 
--- "n, k .. are within the sizes above", "capacity is at least 1 and at least k": so k is at most 1,024 (`capacity-most`)
+-- n is in range, and the capacity neither 0 nor below k (RULES 6.7): so k is at most 1,024 (`capacity-most`)
 abbrev pub sized : List ℕ → Bool
 sized w = not (outside fewestSamples mostSamples (samples w)) && leb 1 (capacity (length w) (samples w)) && leb (inForce w) (capacity (length w) (samples w))
 
--- the identifier is "within the sizes above" (that it is not 0 is in `rising`), "the row in standard numbering"
+-- the identifier is in range (RULES 1.3; that it is not 0 is in `rising`), and the row in standard numbering (RULES 6.3)
 abbrev pub isStored : ℕ → Run → Bool
 isStored n run = leb (run .identifier) mostIdentifier && standard n (run .row)
 
--- "All later words are 0."
+-- whether every word from p on is 0 (RULES 6.5)
 abbrev pub zeroFrom : ℕ → List ℕ → Bool
 zeroFrom p w = every (λ x. eqb x 0) (drop p w)
 
--- "A study is well formed exactly if all this holds, n, k and the identifiers are within the sizes above, no identifier
--- stands twice, capacity is at least 1 and at least k, and each row is valid."
+-- The test: header, sizes, identifiers in order, rows as they are stored, and 0 after the last slot (RULES 6.7).
 unfoldable pub wellFormed : List ℕ → Bool
 wellFormed w = headed w && sized w && rising 0 (runs w) && every (isStored (samples w)) (runs w) && zeroFrom (slotStart (samples w) (inForce w)) w
 
--- each identifier above the one before it, the first above b
+-- each identifier above the one before it, the first above b (RULES 6.4)
 abbrev pub Rising : ℕ → List Run → Type 0
 Rising b [] = Unit {0}
 Rising b (r ∷ rs) = (b < r .identifier) × Rising (r .identifier) rs
 
--- a run as it is stored
+-- a run as it is stored (RULES 1.3, 6.3)
 pub record Stored (n : ℕ) (run : Run) : Type 0 where
   pub word : run .identifier ≤ mostIdentifier
   pub standard : Standard n (run .row)
 
--- A well-formed study (`formed-to`, `formed-from`): its words are those of its runs, and no others.
+-- A well-formed study (RULES 6.7, `formed-to`, `formed-from`): its words are those of its runs, and no others.
 pub record Formed (w : List ℕ) : Type 0 where
   pub least : fewestSamples ≤ samples w
   pub most : samples w ≤ mostSamples

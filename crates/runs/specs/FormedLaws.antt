@@ -1,4 +1,4 @@
--- A study is well formed exactly if its words are those of its runs, and these are in order, in standard numbering and few enough. Assumes nothing.
+-- The test of a study passes exactly if its words are those of its runs, and these are in order, in standard numbering and few enough. Assumes nothing.
 use Prim.Native.Nat.{ℕ, zero, suc, _+_, _-_, _≤_}
 use mathlib.Core.Path.{_≡_, refl, sym, ap, _∙_}
 use mathlib.Core.Logic.{_↔_}
@@ -48,7 +48,7 @@ unfolding every
 zeros-from zero = refl
 zeros-from (suc m) = zeros-from m
 
--- "All later words are 0."
+-- where the test passes, each word from p on is 0 (RULES 6.5)
 pub zero-from : (p : ℕ) (w : List ℕ) → zeroFrom p w ≡ true → (i : ℕ) → p ≤ i → getD w i 0 ≡ 0
 zero-from p w e i h =
     let q : p + (i - p) ≡ i = add-sub-of-le h in
@@ -151,8 +151,8 @@ module _ (w : List ℕ) where
           ∙ ap (zeroFrom (slotStart n (length (runs w)))) (f .exact)
           ∙ encode-zero (length w) n (runs w) (stored-wide n (runs w) (f .stored))
 
-  -- A STUDY IS WELL FORMED EXACTLY IF it is the words of its runs, these rise from 1 and are stored as they must be, and
-  -- sizes and capacity hold
+  -- THE TEST PASSES EXACTLY IF the study is the words of its runs, these rise from 1 and are stored as they must be, and
+  -- sizes and capacity are in range (RULES 6.7)
   pub well-formed-exactly : (wellFormed w ≡ true) ↔ Formed w
   well-formed-exactly = (formed-to, formed-from)
 

@@ -30,7 +30,7 @@ use Rattle.runs.specs.CallLaws.{Kept, kept-on, opened-accepts, opened-ke
 use Rattle.runs.specs.AddLaws.{Adds, added-accepts, added-kept, added-runs, added-find}
 use Rattle.runs.specs.HistoryLaws.{study-kept, study-find, Proper, study-proper}
 
--- ---- lists of runs in which no identifier stands twice
+-- ---- lists of runs that have different identifiers
 
 pub distinct-find : (rs : List Run) (r : Run) → Distinct rs → List·Memᴰ r rs → find (r .identifier) rs ≡ some r
 distinct-find (x ∷ rs) r d (List·Memᴰ·head q) = find-here (r .identifier) x rs (ap (λ (y : Run). y .identifier) q) ∙ ap (λ (y : Run). some y) (sym q)
@@ -41,7 +41,7 @@ distinct-find (x ∷ rs) r d (List·Memᴰ·tail m) =
 abbrev restored : ℕ → Run → Run
 restored n run = stores n (run .identifier) (run .row)
 
--- what is found among given runs, as it is stored, or else what was there
+-- what is found among new runs, as it is stored, or else what was there
 abbrev orOld : ℕ → Option Run → Option Run → Option Run
 orOld n (some r) o = some (restored n r)
 orOld n none o = o
@@ -76,7 +76,7 @@ unfolding gathered
 length-gathered n [] = refl
 length-gathered n (r ∷ rs) = length-insert (restored n r) (gathered n rs) ∙ ap suc (length-gathered n rs)
 
--- ---- runs given to a study
+-- ---- runs added to a study
 
 -- a run that adding takes, where it is not there yet and has room
 record Fit (n : ℕ) (run : Run) : Type 0 where
@@ -84,7 +84,7 @@ record Fit (n : ℕ) (run : Run) : Type 0 where
   named : 0 < run .identifier
   word : run .identifier ≤ mostIdentifier
 
--- every add is accepted, and what is found after them is as given, or as before
+-- every add is accepted, and what is found after them is the run that was added, or is as before
 record Taken (n : ℕ) (w : List ℕ) (given : List Run) : Type 0 where
   all : every isAccepted (answers w (adds given)) ≡ true
   each : (i : ℕ) → find i (runs (after w (adds given))) ≡ orOld n (find i given) (find i (runs w))
@@ -152,7 +152,7 @@ unfolding every
 adds-words [] f = refl
 adds-words (r ∷ rs) f = and-both _ _ (le-leb (r .identifier) mostIdentifier (f r (List·Memᴰ·head refl))) (adds-words rs (λ x m. f x (List·Memᴰ·tail m)))
 
--- ---- the runs in force, given anew
+-- ---- the runs in force, added to a fresh study
 
 -- what stands for a last accepted call is stored as the call was
 stands-stored : (n i : ℕ) (o : Option Run) (c : Option Call) → ((r : Run) → o ≡ some r → r .identifier ≡ i)
@@ -169,7 +169,7 @@ stands-valid n r (some (add j row)) s = judged-valid n (r .row) (s .0)
 stands-valid n r (some (withdraw j)) s = absurd s
 stands-valid n r none s = absurd s
 
--- a history and runs to be given anew
+-- a history, and the runs for a fresh study
 module _ (n : ℕ) (w : List ℕ) (h : List Call) (given : List Run) (o : opened n w .verdict ≡ accepted) (e : identified h ≡ true) (anew : Anew n w h given) where
   abbrev old : List Run
   old = runs (studyAfter n w h)
@@ -243,9 +243,9 @@ module _ (n : ℕ) (w : List ℕ) (h : List Call) (given : List Run) (o : opened
         rising-unique 0 (runs (studyAfter n fresh (adds given))) old (study-kept n fresh (adds given) fresh-opens given-words .formed .rises) up
         (λ i. fresh-taken .each i ∙ ap (orOld n (find i given)) (none-found i) ∙ given-found i)
 
-    -- DEMAND 3: after any history from opening on, refused calls among them, a fresh buffer of the same length, whatever its words, opened
-    -- for the same n and given only the runs in force, in any order and each as any row with the groups of its last accepted add, is
-    -- opened, takes each of them, and has the same words
+    -- DEMAND 3 (RULES D3): after any history from opening on, refused calls among them, take a fresh buffer of the same length, whatever its words.
+    -- It can be opened for the same n, takes the runs in force, in any order and each as any row with the groups of its last accepted add, and
+    -- has the same words then
     pub demand-3 : Renewed n w h fresh given
     demand-3 =
         let k = study-kept n fresh (adds given) fresh-opens given-words in
@@ -271,7 +271,7 @@ module _ (n : ℕ) (w : List ℕ) (h : List Call) (fresh : List ℕ) (given : Li
 
 -- ---- in any order
 
--- in another order no identifier stands twice either, and the same runs are found
+-- in another order the identifiers are different too, and the same runs are found
 shuffled-find : {rs ss : List Run} → Shuffled rs ss → Distinct rs → Distinct ss × ((i : ℕ) → find i ss ≡ find i rs)
 unfolding find
 shuffled-find done d = (tt, λ i. refl)
@@ -283,7 +283,7 @@ shuffled-find (swap r s rs) d =
     )
 shuffled-find (both p q) d = let t = shuffled-find p d in let u = shuffled-find q (t .0) in (u .0, λ i. u .1 i ∙ t .1 i)
 
--- runs that may be given anew may be given in every order
+-- the runs for a fresh study may be added in every order
 pub shuffled-anew : (n : ℕ) (w : List ℕ) (h : List Call) (given other : List Run) → Anew n w h given → Shuffled given other → Anew n w h other
 shuffled-anew n w h given other a p = let t = shuffled-find p (a .once) in record { once = t .0; each = λ i. rw (t .1 i) (a .each i) }
 
@@ -291,7 +291,7 @@ rising-distinct : (b : ℕ) (rs : List Run) → Rising b rs → Distinct rs
 rising-distinct b [] h = tt
 rising-distinct b (r ∷ rs) h = (find-below (r .identifier) (r .identifier) rs (h .1) (omega arith), rising-distinct (r .identifier) rs (h .1))
 
--- the runs in force, as they are stored, may be given anew
+-- the runs in force, as they are stored, may be added to a fresh study
 pub stored-anew : (n : ℕ) (w : List ℕ) (h : List Call) → opened n w .verdict ≡ accepted → identified h ≡ true → Anew n w h (runs (studyAfter n w h))
 stored-anew n w h o e = record {
   once = rising-distinct 0 (runs (studyAfter n w h)) (study-kept n w h o e .formed .rises);

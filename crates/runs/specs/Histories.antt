@@ -1,4 +1,4 @@
--- Histories of adds and withdrawals, refused ones among them, and what is in force after one.
+-- Histories of adds and withdrawals, refused ones among them, and what is in force after one (RULES D3).
 use Prim.Native.Nat.{ℕ}
 use mathlib.Core.Path.{_≡_}
 use mathlib.Core.List.{List, [], _∷_, map}
@@ -25,7 +25,7 @@ abbrev pub names : Call → ℕ
 names (add i row) = i
 names (withdraw i) = i
 
--- "Run identifiers: 1 to 65,535": an identifier is a word
+-- whether each identifier is a word (RULES 1.3)
 abbrev pub identified : List Call → Bool
 identified h = every (λ c. leb (names c) mostIdentifier) h
 
@@ -63,19 +63,19 @@ isAdd none = false
 isAdd (some (add i row)) = true
 isAdd (some (withdraw i)) = false
 
--- the run that a last accepted call leaves in force: that of an add
+-- the run that a last accepted call leaves in force: that of an add, as it is stored
 abbrev pub leaves : ℕ → Option Call → Option Run
 leaves n none = none
 leaves n (some (add i row)) = some (stores n i row)
 leaves n (some (withdraw i)) = none
 
--- ---- the runs in force, given to a fresh study
+-- ---- the runs in force, added to a fresh study (RULES D3)
 
--- two rows with the same groups
+-- two rows with the same groups (RULES 3.2)
 abbrev pub SameGroups : ℕ → List ℕ → List ℕ → Type 0
 SameGroups n r q = (x : Group) → member x (groups n r) ≡ member x (groups n q)
 
--- A run given anew stands for an add if judging accepts its row and the row has the groups of the add's; no run stands
+-- A run for a fresh study stands for an add if judging accepts its row and the row has the groups of the add's; no run stands
 -- for a withdrawal or for no call.
 abbrev pub StandsFor : ℕ → Option Run → Option Call → Type 0
 StandsFor n (some run) (some (add i row)) = (judged n (run .row) ≡ accepted) × SameGroups n (run .row) row
@@ -85,21 +85,21 @@ StandsFor n none (some (add i row)) = ⊥
 StandsFor n none (some (withdraw i)) = Unit {0}
 StandsFor n none none = Unit {0}
 
--- no identifier stands twice
+-- no two runs have the same identifier (RULES 6.4)
 abbrev pub Distinct : List Run → Type 0
 Distinct [] = Unit {0}
 Distinct (r ∷ rs) = (find (r .identifier) rs ≡ none) × Distinct rs
 
--- These runs are those in force after a history, in any order, each as any row with the groups of its last accepted add.
+-- These runs are those in force after a history, in any order, each as any row with the groups of its last accepted add (RULES D3).
 pub record Anew (n : ℕ) (w : List ℕ) (h : List Call) (given : List Run) : Type 0 where
   pub once : Distinct given
   pub each : (i : ℕ) → StandsFor n (find i given) (lastAccepted n w h i)
 
--- runs given as adds
+-- runs as the adds that put them in
 abbrev pub adds : List Run → List Call
 adds given = map (λ run. add (run .identifier) (run .row)) given
 
--- What demand 3 promises of a history: a fresh buffer is opened, takes each of these runs, and then has the same words.
+-- What demand 3 promises of a history: a fresh buffer is opened, takes each of these runs, and then has the same words (RULES D3).
 pub record Renewed (n : ℕ) (w : List ℕ) (h : List Call) (fresh : List ℕ) (given : List Run) : Type 0 where
   pub opens : opened n fresh .verdict ≡ accepted
   pub takes : every isAccepted (answers (opened n fresh .words) (adds given)) ≡ true

@@ -46,7 +46,7 @@ module _ (len n : ℕ) (w : List ℕ) (k : Kept len n w) where
   accepted-kept (add i row) l e = kept-on len n w (added w i row .words) k (added-kept w i row (added-accepts w i row .0 e) l)
   accepted-kept (withdraw i) l e = kept-on len n w (withdrawn w i .words) k (withdrawn-kept w i (withdrawn-accepts w i .0 e))
 
-  -- a call leaves a well-formed study as long as it was, over as many samples
+  -- a call leaves a well-formed study as long as it was, and over as many samples
   pub called-kept : (c : Call) → Word c → Kept len n (called w c .words)
   called-kept c l =
       ⊎-elim (λ e. accepted-kept c l (accepted-to (called w c .verdict) e)) (λ e. rw (refused-words w c e) k) (decide (isAccepted (called w c .verdict)))

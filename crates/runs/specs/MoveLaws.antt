@@ -69,7 +69,7 @@ delete-at b d (x ∷ xs) (suc i) a h e =
     let l = above-at (x .identifier) xs i (a .1) (le-of-suc-le-suc h) in
     rw (ne-eqb d (x .identifier) (λ q. omega arith)) (ap (λ (s : List Run). x ∷ s) (delete-at (x .identifier) d xs i (a .1) (le-of-suc-le-suc h) e))
 
--- ---- slots before and behind a place
+-- ---- slots before and after a place
 
 slots-append : (xs ys : List Run) → slots (xs ++ ys) ≡ slots xs ++ slots ys
 unfolding slots
@@ -226,7 +226,7 @@ module _ (w : List ℕ) (f : Formed w) where
       ∙ put-encode (length w) (samples w) i (runs w) wide r hr l
       ∙ ap (encode (length w) (samples w)) (sym (insert-at r (runs w) i l (lower-at (r .identifier) i g) (higher-at (r .identifier) i g)))
 
-  -- THE WORDS WITH ONE RUN FEWER: its slot closed up, zeros behind the others, and the count
+  -- THE WORDS WITH ONE RUN FEWER: its slot closed up, zeros after the others, and the count
   pub close-words : (d i : ℕ) → StandsAt w d i → slotClosed w i ≡ encode (length w) (samples w) (deleteRun d (runs w))
   close-words d i s =
       let l : i < length (runs w) = rw (length-runs w) (s .slot) in

@@ -22,11 +22,11 @@ pub record GoesBefore (w : List ℕ) (d i : ℕ) : Type 0 where
   pub lower : (j : ℕ) → j < i → identifierAt w j < d
   pub higher : i < inForce w → d < identifierAt w i
 
--- words put in at f; those from there up to t gone up by as many places
+-- words put in at f; those from there up to t moved up by as many places
 abbrev pub putAt : List ℕ → ℕ → ℕ → List ℕ → List ℕ
 putAt w f t new = take f w ++ (new ++ (slice f t w ++ drop (t + length new) w))
 
--- s words at f taken out; those behind them up to t gone down, then s zeros
+-- s words at f taken out; those after them up to t moved down, then s zeros
 abbrev pub closeAt : List ℕ → ℕ → ℕ → ℕ → List ℕ
 closeAt w f t s = take f w ++ (slice (f + s) t w ++ (zeros s ++ drop t w))
 

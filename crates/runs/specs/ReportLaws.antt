@@ -1,4 +1,4 @@
--- Demands 1 and 2 of reporting: each number exactly when its line applies, and exactly the majority groups with their exact supports. Assumes nothing.
+-- Demands 1 and 2 of reporting: each number exactly when its check applies, and exactly the majority groups with their exact supports. Assumes nothing.
 use Prim.Native.Nat.{ℕ, zero, suc, _+_, _*_, _≤_, _<_}
 use mathlib.Core.Path.{_≡_, refl, ap, _∙_}
 use mathlib.Core.Logic.{_↔_}
@@ -90,7 +90,7 @@ module _ (rule : Rule) (w a s : List ℕ) where
   pub reported-formed : reported rule w a s .verdict ≡ accepted → Formed w × (0 < inForce w)
   reported-formed e = let t = reported-accepts .0 e in (t .formed, t .some)
 
--- ---- DEMAND 2, of what an accepted report leaves
+-- ---- DEMAND 2, of what an accepted report leaves (RULES D2)
 
 module _ (w a s : List ℕ) (e : reported majority w a s .verdict ≡ accepted) where
   abbrev n : ℕ
@@ -115,11 +115,11 @@ module _ (w a s : List ℕ) (e : reported majority w a s .verdict ≡ accepted) 
   pub reported-standard : Standard (samples w) (reported majority w a s .agreedRow)
   reported-standard = rw row (majority-standard n (runs w) ok some)
 
-  -- none missing, none added: any group whatever is one of its groups exactly when twice its support exceeds k
+  -- none missing, none added: any group whatever is one of its groups exactly when twice its support exceeds k (RULES 5.1)
   pub reported-groups : (g : Group) → member g (groups (samples w) (reported majority w a s .agreedRow)) ≡ ltb (inForce w) (2 * support (samples w) (runs w) g)
   reported-groups g = rw (row, ← length-runs w) (majority-groups n (runs w) ok some g)
 
-  -- each shown support is the exact number, more than half of k, and at most k
+  -- the support of each node is the exact count, lies above k/2, and is k at most (RULES 5.5, 5.6)
   pub reported-support : (v : ℕ) → v < nodes (reported majority w a s .agreedRow)
       → getD (reported majority w a s .supportRow) (suc v) 0 ≡ support (samples w) (runs w) (groupAt (samples w) (reported majority w a s .agreedRow) v)
   reported-support v h = rw (words, row) (supports-node majority n (runs w) ok some sound v (rw row at h))
@@ -128,7 +128,7 @@ module _ (w a s : List ℕ) (e : reported majority w a s .verdict ≡ accepted) 
       → (inForce w < 2 * getD (reported majority w a s .supportRow) (suc v) 0) × (getD (reported majority w a s .supportRow) (suc v) 0 ≤ inForce w)
   reported-bounds v h = rw (reported-support v h, row, ← length-runs w) (majority-supports n (runs w) ok some v (rw row at h))
 
-  -- word 0 is k, filler is 0, and there are 2n words
+  -- the first word is k, the words after the last node's are 0, and there are 2n of them (RULES 5.4, 5.5)
   pub reported-first : getD (reported majority w a s .supportRow) 0 0 ≡ inForce w
   reported-first = rw words (supports-first majority n (runs w) ok some sound ∙ total-length (runs w) ∙ length-runs w)
 
@@ -138,7 +138,7 @@ module _ (w a s : List ℕ) (e : reported majority w a s .verdict ≡ accepted) 
   pub reported-length : length (reported majority w a s .supportRow) ≡ rowWords (samples w)
   reported-length = rw words (supports-length majority n (runs w) ok some sound)
 
--- "With k = 1 the run itself is reported."
+-- a single run is its own report (RULES 10.7)
 pub reported-one : (w a s : List ℕ) (run : Run) → reported majority w a s .verdict ≡ accepted → runs w ≡ run ∷ []
     → reported majority w a s .agreedRow ≡ run .row
 unfolding support weigh

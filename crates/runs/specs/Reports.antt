@@ -1,4 +1,4 @@
--- What reporting answers, and the two rows that it leaves.
+-- What reporting answers, and the two rows that it leaves (RULES 5 and 7).
 use Prim.Native.Nat.{ℕ}
 use mathlib.Core.List.{List, [], _∷_}
 use mathlib.Core.Bool.{cond}
@@ -16,19 +16,18 @@ pub record Report : Type 0 where
   pub agreedRow : List ℕ
   pub supportRow : List ℕ
 
--- "report: k is 0"
+-- check 14, of reporting: no run is in force (RULES 7.5)
 abbrev pub check14 : List ℕ → Check
 check14 w = line 14 (eqb (inForce w) 0)
 
--- the checks of reporting on a study that is known to be well formed, and on any
+-- the checks of reporting on a study that is known to be well formed, and on any (RULES 7.2)
 unfoldable pub reportFormedChecks : List ℕ → List ℕ → List ℕ → List Check
 reportFormedChecks w a s = check3Both (samples w) a s ∷ check14 w ∷ []
 
 unfoldable pub reportChecks : List ℕ → List ℕ → List ℕ → List Check
 reportChecks w a s = check2 w ∷ reportFormedChecks w a s
 
--- "The report writes two buffers of 2n words: the agreed row, and the support row."
--- "After a refusal all lent words are unchanged."
+-- what reporting answers, and its two buffers after it: the agreed row and the support row (RULES 5.4, 5.5), or what they held before (RULES 7.4)
 unfoldable pub reported : Rule → List ℕ → List ℕ → List ℕ → Report
 reported rule w a s =
     let yes = isAccepted (reportChecks w a s ⊳ accepted) in

@@ -11,7 +11,7 @@ use Rattle.runs.specs.Words.{samples, inForce, headerWords, slotWords, s
 use Rattle.runs.specs.Formed.{Formed}
 use Rattle.runs.specs.WordLaws.{capacity-most, capacity-room, room-exactly, slot-next}
 
--- a slot ends within the words that have those behind it
+-- a slot ends within the words in which all k slots do
 pub slot-within : (n i k len : ℕ) → i < k → slotStart n k ≤ len → slotStart n i + slotWords n ≤ len
 slot-within n i k len h l = omega (arith, slot-next n i, mul-le-mul-right (slotWords n) h)
 

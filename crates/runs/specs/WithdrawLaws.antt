@@ -100,7 +100,7 @@ module _ (w : List ℕ) (i : ℕ) where
     pub withdrawn-find : (j : ℕ) → find j (runs (withdrawn w i .words)) ≡ cond (eqb j i) none (find j (runs w))
     withdrawn-find j = rw withdrawn-runs (find-delete 0 j i (runs w) (a .formed .rises))
 
--- ---- A WITHDRAWN RUN'S ROOM TAKES THE NEXT ADD
+-- ---- A WITHDRAWN RUN'S ROOM TAKES THE NEXT ADD (RULES D3)
 
 module _ (w : List ℕ) (i : ℕ) (e : withdrawn w i .verdict ≡ accepted) where
   frees : (v : List ℕ) → v ≡ withdrawn w i .words → inForce v < capacity (length v) (samples v)
@@ -140,7 +140,7 @@ module _ (w : List ℕ) (i : ℕ) (e : withdrawn w i .verdict ≡ accepted) wher
         room = frees (withdrawn w i .words) refl;
       }
 
-  -- "Adding an identifier again after its withdrawal, with another tree, is allowed."
+  -- an identifier that was withdrawn may come back with a new tree (RULES 10.10)
   pub withdrawn-again : (row : List ℕ) → judged (samples w) row ≡ accepted → added (withdrawn w i .words) i row .verdict ≡ accepted
   withdrawn-again row ok =
       let a = withdrawn-accepts w i .0 e in

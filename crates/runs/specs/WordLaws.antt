@@ -27,7 +27,7 @@ wide-tail n r rs h run m = h run (List·Memᴰ·tail m)
 
 -- ---- capacity
 
--- "below 8 words it is 0"
+-- in fewer words than a header has there is room for no run (RULES 6.6)
 pub capacity-short : (len n : ℕ) → len < headerWords → capacity len n ≡ 0
 unfolding capacity
 capacity-short len n h =
@@ -38,7 +38,7 @@ pub capacity-most : (len n : ℕ) → capacity len n ≤ mostRuns
 unfolding capacity
 capacity-most len n = omega arith
 
--- where there is room for one, the slots up to the capacity fit behind the header
+-- where there is room for one, the slots up to the capacity fit after the header
 pub capacity-room : (len n k : ℕ) → 1 ≤ capacity len n → k ≤ capacity len n → slotStart n k ≤ len
 unfolding capacity
 capacity-room len n k h l =
@@ -65,7 +65,7 @@ capacity-exactly len n k h = (
   λ t. capacity-largest len n k (t .0) (t .1),
 )
 
--- "k equals capacity"
+-- a study is full once k has reached the capacity
 pub full-at : (w : List ℕ) → inForce w ≡ capacity (length w) (samples w) → full w ≡ true
 full-at w e = eq-eqb (inForce w) (capacity (length w) (samples w)) e
 
@@ -89,7 +89,7 @@ length-slots n (r ∷ rs) h = omega (
   suc-mul (length rs) (slotWords n),
 )
 
--- behind i slots stand the others
+-- after i slots come the others
 drop-slots : (n : ℕ) (rs : List Run) (z : List ℕ) (i : ℕ) → Wide n rs → i ≤ length rs → drop (i * slotWords n) (slots rs ++ z) ≡ slots (drop i rs) ++ z
 unfolding slots
 drop-slots n rs z zero h l = ap (λ (m : ℕ). drop m (slots rs ++ z)) (zero-mul (slotWords n))
@@ -105,7 +105,7 @@ drop-slots n (r ∷ rs) z (suc i) h l =
 read-slot : (n : ℕ) (r : Run) (z : List ℕ) → length (r .row) ≡ rowWords n → readRun n (slot r ++ z) ≡ r
 read-slot n r z e = ap (λ (ws : List ℕ). record { identifier = r .identifier; row = ws }) (take-at (r .row) z (rowWords n) e)
 
--- the slot of the run that words begin with, and the words behind it
+-- the slot of the run that words begin with, and the words after it
 slot-read : (n : ℕ) (ws : List ℕ) → slotWords n ≤ length ws → slot (readRun n ws) ++ drop (slotWords n) ws ≡ ws
 slot-read n [] h = absurd (omega arith)
 slot-read n (x ∷ xs) h =
@@ -128,7 +128,7 @@ pub inForce-encode : (len n : ℕ) (rs : List Run) → inForce (encode len n rs)
 unfolding encode
 inForce-encode len n rs = refl
 
--- the zeros behind the slots
+-- the zeros after the slots
 abbrev rest : ℕ → ℕ → List Run → List ℕ
 rest len n rs = zeros (len - length (header n (length rs) ++ slots rs))
 
@@ -139,7 +139,7 @@ drop-encode len n rs i h l =
     let z : List ℕ = rest len n rs in
     drop-append-add (header n (length rs)) (slots rs ++ z) (i * slotWords n) ∙ drop-slots n rs z i h l
 
--- behind the slots stand zeros alone
+-- after the slots there are only zeros (RULES 6.5)
 pub rest-encode : (len n : ℕ) (rs : List Run) → Wide n rs
     → drop (slotStart n (length rs)) (encode len n rs) ≡ zeros (len - length (header n (length rs) ++ slots rs))
 unfolding slots
@@ -182,7 +182,7 @@ pub length-runs : (w : List ℕ) → length (runs w) ≡ inForce w
 unfolding runs
 length-runs w = length-tabulate (inForce w) (runAt (samples w) w) 0
 
--- the slots of k runs read from slot j on, and the words behind them
+-- the slots of k runs read from slot j on, and the words after them
 slots-read : (n : ℕ) (w : List ℕ) (k j : ℕ) → slotStart n (j + k) ≤ length w
     → slots (tabulate k (runAt n w) j) ++ drop (slotStart n (j + k)) w ≡ drop (slotStart n j) w
 unfolding slots tabulate
@@ -199,7 +199,7 @@ slots-read n w (suc k) j h =
     (ap (λ (i : ℕ). t ++ drop (slotStart n i) w) e ∙ slots-read n w k (suc j) (rw (← e) h) ∙ sym (drop-next n w j))
     ∙ slot-read n ws l
 
--- words with a header, and zeros behind their runs, are those of their runs
+-- words with a header, and zeros after their runs, are those of their runs
 pub encode-runs : (w : List ℕ) → slotStart (samples w) (inForce w) ≤ length w → take headerWords w ≡ header (samples w) (inForce w)
     → drop (slotStart (samples w) (inForce w)) w ≡ zeros (length w - slotStart (samples w) (inForce w)) → w ≡ encode (length w) (samples w) (runs w)
 unfolding encode runs

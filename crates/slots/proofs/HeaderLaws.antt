@@ -1,4 +1,4 @@
--- Words compared with a header: what is left decides the whole; and a header stored with zeros behind it. Assumes nothing.
+-- Words compared with a header: what is left decides the whole; and a header stored with zeros after it. Assumes nothing.
 use Prim.Native.Nat.{ℕ, _+_, _-_, _<_, _≤_}
 use mathlib.Core.Path.{_≡_, refl, ap, _∙_}
 use mathlib.Core.List.{List, [], _++_, append-nil}

@@ -75,7 +75,7 @@ slice-take (suc a) zero w = ap (λ (n : ℕ). take n (drop (suc a) w)) (sym (zer
 slice-take (suc a) (suc t) [] = sym (take-nil (suc t - suc a))
 slice-take (suc a) (suc t) (x ∷ w) = slice-take a t w ∙ ap (λ (n : ℕ). take n (drop a w)) (sym (suc-sub-suc t a))
 
--- words lowered over s words at f, and the s words behind them cleared
+-- words lowered over s words at f, and the s words after them cleared
 pub close-law : (w : List ℕ) (f t s : ℕ) {w₁ w₂ : List ℕ} → f + s ≤ t → t ≤ length w
     → w₁ ≡ paste w f (drop (f + s) w) (t - s - f) → w₂ ≡ paste w₁ (t - s) (zeros s) s → w₂ ≡ closeAt w f t s
 close-law w f t s {w₁} {w₂} h k e₁ e₂ =

@@ -1,4 +1,4 @@
-// The header of a study: its eight words by value, its limits, the width of a slot, and the capacity.
+// The header of a study (RULES 6.1, 6.2): its eight words by value, its limits, the width of a slot, and the capacity.
 use crate::moves::clear;
 use crate::moves::copy_in;
 use judge::wide;
@@ -11,10 +11,10 @@ ghost use Rattle.runs.specs.Words.{header, samples, inForce, headerWords, slotW
 ghost use Rattle.runs.specs.Formed.{sameWords, Formed};
 ghost use Rattle.runs.specs.Words.{full};
 
-// "slots of 2n+1 words: identifier, then the row": where the row stands in its slot.
+// Where the row stands in its slot, after the identifier (RULES 6.3).
 pub const ROW_OFFSET: usize = 1;
 
-// The width of a slot.
+// The width of a slot (RULES 6.3).
 pub fn slot_words(n: usize) -> usize
     requires { ⌜ n ≤ mostSamples ⌝ }
     ensures { λ r. ⌜ r ≡ slotWords n ⌝ }
@@ -22,7 +22,7 @@ pub fn slot_words(n: usize) -> usize
     2 * n + ROW_OFFSET
 }
 
-// "Word 4 is n, word 5 is k"
+// What a header says: n and k (RULES 6.2).
 pub struct Header {
     pub samples: u16,
     pub in_force: u16,
@@ -45,7 +45,7 @@ impl Header {
 
     pub const MOST_RUNS: usize = 1024;
 
-    // How many runs a study of `len` words over n samples has room for.
+    // How many runs a study of `len` words over n samples has room for (RULES 6.6).
     pub fn capacity(len: usize, n: usize) -> usize
         requires { ⌜ n ≤ mostSamples ⌝ }
         ensures { λ r. ⌜ r ≡ capacity len n ⌝ }
@@ -71,7 +71,7 @@ impl Header {
         }
     }
 
-    // The eight words of the header.
+    // The eight words of the header (RULES 6.1, 6.2).
     pub fn words(self) -> [u16; Header::WORDS]
         ensures { λ r. ⌜ r ≡ header (self .samples) (self .in_force) ⌝ }
     {

@@ -50,7 +50,7 @@ fn put_at(words: &mut [u16], n: usize, from: usize, to: usize, id: u16, row: &[u
     put_row(words, n, from + ROW_OFFSET, row);
 }
 
-// The `width` words at `from` go; those behind them up to `to` go down, and zeros follow.
+// The `width` words at `from` go; those after them up to `to` go down, and zeros follow.
 fn close_at(words: &mut [u16], from: usize, to: usize, width: usize)
     requires { ⌜ (from + width ≤ to) × (to ≤ length (now words)) ⌝ }
     ensures { λ _. ⌜ now (words .exit) ≡ closeAt (now (words .entry)) from to width ⌝ }

@@ -1,4 +1,4 @@
--- How an answer passes along the checks of a call, what an acceptance tells, and the words that a call leaves. Assumes nothing.
+-- How an answer passes along the checks of a call, what is known from an acceptance, and the words that a call leaves. Assumes nothing.
 use Prim.Native.Nat.{ℕ, _+_, _≤_}
 use mathlib.Core.Path.{_≡_, sym, ap, _∙_}
 use mathlib.Core.List.{List, [], _∷_, _++_}
@@ -32,7 +32,7 @@ use Rattle.runs.specs.MoveLaws.{stands-found, goes-absent}
 use Rattle.study.specs.Adding.{givenChecks, addedValid}
 use Rattle.runs.specs.Words.{full}
 
--- ---- an answer and the checks behind it
+-- ---- an answer and the checks after it
 
 -- a call that is refused leaves the words as they were
 abbrev pub refusal : Answer → List ℕ → Outcome
@@ -66,7 +66,7 @@ module _ (r : Answer) (cs ds : List Check) (e : verdict r ≡ cs ⊳ accepted) w
 pub leaves : (o : Outcome) (v : Verdict) (ws : List ℕ) → o ≡ record { verdict = v; words = ws } → (v ≡ o .verdict) × (ws ≡ o .words)
 leaves o v ws e = (sym (ap (λ (x : Outcome). x .verdict) e), sym (ap (λ (x : Outcome). x .words) e))
 
--- ---- what an acceptance tells
+-- ---- what is known from an acceptance
 
 pub study-formed : (w : List ℕ) (r : Answer) → verdict r ≡ asked (check2 w) → r ≡ Accepted → Formed w
 study-formed w r e q = formed-to w (not-false _ (line-passes 2 (not (wellFormed w)) (asked-passes (check2 w) (sym e ∙ ap verdict q))))

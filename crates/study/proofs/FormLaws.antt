@@ -115,7 +115,7 @@ sizes-fitting len n k e = record { least = range .0; most = range .1; few = omeg
 pub short-unformed : (w : List ℕ) → length w < headerWords → wellFormed w ≡ false
 short-unformed w h = not-yes (wellFormed w) (λ e. omega (arith, capacity-short (length w) (samples w) h, formed-to w e .one))
 
--- the test is that of the header, of the sizes, of the slots and of the words behind them
+-- the test is that of the header, of the sizes, of the slots and of the words after them
 pub formed-parts : (w head : List ℕ) (n k : ℕ) → n ≡ samples w → k ≡ inForce w → head ≡ header n k
     → wellFormed w ≡ sameWords (take headerWords w) head && sizesFit (length w) n k && storedFrom n 0 (tabulate k (runAt n w) 0) && zeroFrom (slotStart n k) w
 unfolding wellFormed runs

@@ -1,4 +1,4 @@
--- Adding to a well-formed study in two steps: what is given is checked, then the study's slots.
+-- Adding to a well-formed study in two steps: the identifier and the row are checked, then the study's slots.
 use Prim.Native.Nat.{ℕ}
 use mathlib.Core.List.{List, [], _∷_}
 use lib.ListN.{length}
@@ -7,7 +7,7 @@ use Rattle.runs.specs.Words.{samples, encode}
 use Rattle.trees.specs.Outcomes.{Outcome, outcome}
 use Rattle.runs.specs.Calls.{check4, check11, check12, runsWith}
 
--- the checks of what is given with the study: 3, 4 and 5 to 10
+-- the checks of the identifier and the row: 3, 4 and 5 to 10 (RULES 7.5)
 abbrev pub givenChecks : ℕ → ℕ → List ℕ → List Check
 givenChecks n i row = check3 n row ∷ check4 i ∷ rowChecks n row
 

@@ -9,7 +9,7 @@ use Rattle.runs.specs.Runs.{every, rising}
 use Rattle.runs.specs.Words.{capacity}
 use Rattle.runs.specs.Formed.{isStored}
 
--- "n, k .. are within the sizes above", "capacity is at least 1 and at least k", of numbers that were read
+-- n is in range, and the capacity neither 0 nor below k (RULES 6.7), of numbers that were read
 abbrev pub sizesFit : ℕ → ℕ → ℕ → Bool
 sizesFit len n k = not (outside fewestSamples mostSamples n) && leb 1 (capacity len n) && leb k (capacity len n)
 

@@ -20,7 +20,7 @@ ghost use Rattle.runs.specs.Calls.{opened, added, withdrawn};
 ghost use Rattle.judge.specs.Verdicts.{verdict};
 ghost use Rattle.study.specs.Adding.{addedValid};
 
-// Opening a study over n samples, in words of any content.
+// Opening a study over n samples, in words of any content (RULES 6.8).
 pub fn open(n: usize, words: &mut [u16]) -> Answer
     ensures answer { λ r. ⌜ verdict r ≡ opened n (now (words .entry)) .verdict ⌝ }
     ensures words { λ _. ⌜ now (words .exit) ≡ opened n (now (words .entry)) .words ⌝ }
@@ -33,7 +33,7 @@ pub fn open(n: usize, words: &mut [u16]) -> Answer
     Answer::Accepted
 }
 
-// Adding a run whose row is valid: checks 11 and 12, and the run stored.
+// Adding a run whose row is valid: checks 11 and 12 (RULES 7.5), and the run stored.
 fn add_valid(words: &mut [u16], id: u16, row: &[u16]) -> Answer
     requires { ⌜ Formed (now words) × Valid (samples (now words)) (now row) ⌝ }
     ensures answer { λ r. ⌜ verdict r ≡ addedValid (now (words .entry)) id (now (row .entry)) .verdict ⌝ }

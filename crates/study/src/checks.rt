@@ -12,21 +12,21 @@ ghost use Rattle.runs.specs.Calls.{check2, check4, openChecks};
 ghost use Rattle.judge.specs.Verdicts.{verdict};
 ghost use Rattle.study.specs.Adding.{givenChecks};
 
-// Check 2: "the study handed in is not well formed".
+// Check 2: the study is not well formed (RULES 7.5).
 pub fn study_given(words: &[u16]) -> Answer
     ensures { λ r. ⌜ verdict r ≡ asked (check2 (now (words .entry))) ⌝ }
 {
     line(Refusal::STUDY, !well_formed(words))
 }
 
-// Check 4: "identifier 0".
+// Check 4: the identifier is 0 (RULES 7.5).
 pub(crate) fn identifier_given(id: u16) -> Answer
     ensures { λ r. ⌜ verdict r ≡ asked (check4 id) ⌝ }
 {
     line(Refusal::IDENTIFIER, id == 0)
 }
 
-// Checks 1 and 3 of opening: n, and "at opening, capacity is below 1".
+// Checks 1 and 3 of opening: n is out of range, or there is no room for a run (RULES 7.5).
 pub(crate) fn room_given(n: usize, words: &[u16]) -> Answer
     ensures { λ r. ⌜ verdict r ≡ openChecks n (now (words .entry)) ⊳ accepted ⌝ }
 {
@@ -37,7 +37,7 @@ pub(crate) fn room_given(n: usize, words: &[u16]) -> Answer
     line(Refusal::WORDS, Header::capacity(words.len(), n) < 1)
 }
 
-// Checks 3, 4 and 5 to 10 of adding, of what is given with the study.
+// Checks 3, 4 and 5 to 10 of adding: those of the identifier and the row (RULES 7.5).
 pub(crate) fn run_given(n: usize, id: u16, row: &[u16]) -> Answer
     requires { ⌜ (fewestSamples ≤ n) × (n ≤ mostSamples) ⌝ }
     ensures { λ r. ⌜ verdict r ≡ givenChecks n id (now (row .entry)) ⊳ accepted ⌝ }

@@ -1,4 +1,4 @@
-// Whether words of any length and content are a study: header, sizes, slot by slot, then zeros to the end.
+// Whether words of any length and content are a study (RULES 6.7): header, sizes, slot by slot, then zeros to the end.
 use judge::FEWEST_SAMPLES;
 use judge::MOST_SAMPLES;
 use judge::wide;
@@ -16,7 +16,7 @@ ghost use Rattle.runs.specs.Words.{slotWords, slotStart, readRun, runAt};
 ghost use Rattle.runs.specs.Formed.{zeroFrom, wellFormed};
 ghost use Rattle.study.specs.Scans.{sizesFit, follows, storedFrom};
 
-// "n, k .. are within the sizes above", "capacity is at least 1 and at least k"
+// Whether n is in range, and the capacity neither 0 nor below k (RULES 6.7).
 fn sizes_fit(len: usize, n: usize, k: usize) -> bool
     ensures { λ r. ⌜ r ≡ sizesFit len n k ⌝ }
 {
@@ -38,7 +38,7 @@ fn slot_follows(words: &[u16], n: usize, p: usize, last: u16) -> bool
     passes::is_standard(n, slot_row(words, n, p))
 }
 
-// Whether k slots have rising identifiers, none of them 0, and rows in standard numbering.
+// Whether k slots have rising identifiers, none of them 0, and rows in standard numbering (RULES 6.3, 6.4).
 fn slots_stored(words: &[u16], n: usize, k: usize) -> bool
     requires { ⌜ (fewestSamples ≤ n) × (n ≤ mostSamples) × (slotStart n k ≤ length (now words)) ⌝ }
     ensures { λ r. ⌜ r ≡ storedFrom n 0 (tabulate k (runAt n (now (words .entry))) 0) ⌝ }
@@ -58,7 +58,7 @@ fn slots_stored(words: &[u16], n: usize, k: usize) -> bool
     true
 }
 
-// Whether all words from `from` on are 0.
+// Whether all words from `from` on are 0 (RULES 6.5).
 fn zero_from(words: &[u16], from: usize) -> bool
     ensures { λ r. ⌜ r ≡ zeroFrom from (now (words .entry)) ⌝ }
 {

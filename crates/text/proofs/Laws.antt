@@ -64,7 +64,7 @@ module _ {text out₀ out : List ℕ} {at at₀ : ℕ} (t : ℕ → Bool) (s n :
   pub passing-end : n ≤ s → Put text out₀ at₀ out at
   passing-end h = fields-end (rw (filter-end t s n h) at l)
 
--- Of so many fields of at most so many bytes i are passed, and what is left puts the whole.
+-- Of `count` fields of at most `most` bytes each i are passed, and what is left puts the whole.
 pub record FieldsLeft (most count i : ℕ) (rest out : List ℕ) (next : ℕ) (text out₀ : List ℕ) (at : ℕ) : Type 0 where
   pub passed : i ≤ count
   pub room : next ≤ at + most * i

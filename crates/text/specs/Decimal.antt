@@ -17,7 +17,7 @@ digits (suc f) x = cond (ltb x 10) (digit x ∷ []) (digits f (x / 10) ++ (digit
 unfoldable pub decimal : ℕ → List ℕ
 decimal x = digits (suc x) x
 
--- the number that digits stand for, behind those of a
+-- the number that digits stand for, after those of a
 unfoldable pub valueAfter : ℕ → List ℕ → ℕ
 valueAfter a [] = a
 valueAfter a (d ∷ ds) = valueAfter (10 * a + (d - digit 0)) ds

@@ -1,4 +1,4 @@
--- Fields put one behind the other make a line; samples are the numbers that pass a test. Assumes nothing.
+-- Fields put one after the other make a line; samples are the numbers that pass a test. Assumes nothing.
 use Prim.Native.Nat.{ℕ, zero, suc, _+_, _-_, _≤_, _<_}
 use mathlib.Core.Path.{_≡_, refl, ap, _∙_}
 use mathlib.Core.List.{List, [], _∷_, _++_, map, append-assoc}
@@ -46,7 +46,7 @@ filter-table (suc m) a t p h = rw (h a (omega arith) (omega arith), filter-table
 pub filter-same : (t p : ℕ → Bool) (a b : ℕ) → ((x : ℕ) → a ≤ x → x < b → t x ≡ p x) → filter t (range a b) ≡ filter p (range a b)
 filter-same t p a b h = filter-table (b - a) a t p (λ x k l. h x k (omega arith))
 
--- ---- the line of a node: its front, then the samples that a test tells
+-- ---- the line of a node: its front, then the samples that pass a test
 
 pub samples-told : (n : ℕ) (g : Group) (t : ℕ → Bool) → ((s : ℕ) → s < n → t s ≡ has g s) → filter t (range 0 n) ≡ samplesOf n g
 unfolding samplesOf

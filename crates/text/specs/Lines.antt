@@ -1,4 +1,4 @@
--- The lines of the listing.
+-- The lines of the listing (RULES 9.4 to 9.7).
 use Prim.Native.Nat.{ℕ, suc, _-_}
 use mathlib.Core.List.{List, [], _∷_, _++_, map}
 use mathlib.Core.Bool.{cond}
@@ -10,41 +10,42 @@ use Rattle.trees.specs.Rows.{nodes, parent, rootMark, groupAt}
 use Rattle.file.specs.Ascii.{ascii}
 use Rattle.text.specs.Decimal.{decimal}
 
+-- what stands between fields, and what ends a line (RULES 9.6)
 abbrev pub space : ℕ
 space = 32
 
 abbrev pub lineFeed : ℕ
 lineFeed = 10
 
--- fields, each behind a space
+-- fields, a space before each (RULES 9.6)
 unfoldable pub spaced : List (List ℕ) → List ℕ
 spaced [] = []
 spaced (f ∷ fs) = space ∷ (f ++ spaced fs)
 
--- "Fields are parted by one space; each line ends with a line feed."
+-- a line: fields with a space between them, and a line feed (RULES 9.6)
 unfoldable pub lineOf : List ℕ → List (List ℕ) → List ℕ
 lineOf f fs = f ++ spaced fs ++ (lineFeed ∷ [])
 
--- "The first line is mark, version, n, k."
+-- the first line (RULES 9.4)
 unfoldable pub headLine : ℕ → ℕ → List ℕ
 headLine n k = lineOf (ascii "ARB") (decimal 1 ∷ decimal n ∷ decimal k ∷ [])
 
--- "parent (`-` for the root)"
+-- the parent of a node, or `-` if it is the root (RULES 9.5)
 unfoldable pub parentField : ℕ → List ℕ
 parentField p = cond (eqb p rootMark) (ascii "-") (decimal p)
 
--- "its samples rising"
+-- the samples of a group from the lowest up (RULES 9.5)
 unfoldable pub samplesOf : ℕ → Group → List ℕ
 samplesOf n g = filter (has g) (range 0 n)
 
--- "node, parent (`-` for the root), support, then its samples rising"; "word 1+v is the number of runs holding the group of node v"
+-- the line of an inner node: its number, its parent, its support as the support row has it (RULES 5.5), and its samples (RULES 9.5)
 unfoldable pub nodeLine : ℕ → List ℕ → List ℕ → ℕ → List ℕ
 nodeLine n row support v = lineOf (decimal v) (parentField (parent row v) ∷ decimal (getD support (suc v) 0) ∷ map decimal (samplesOf n (groupAt n row v)))
 
--- "After a refusal the only line is `refused R J P`"
+-- the line of a refusal, `refused R J P`: its number, which slot it was, and its place (RULES 9.7)
 unfoldable pub refusalLine : ℕ → ℕ → ℕ → List ℕ
 refusalLine number slot place = lineOf (ascii "refused") (decimal number ∷ decimal slot ∷ decimal place ∷ [])
 
--- "Each further line is one inner node in rising order"
+-- the first line, then one for each inner node, the lowest first (RULES 9.5)
 unfoldable pub treeLines : ℕ → ℕ → List ℕ → List ℕ → List (List ℕ)
 treeLines n k row support = headLine n k ∷ tabulate (nodes row - n) (nodeLine n row support) n

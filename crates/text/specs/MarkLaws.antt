@@ -1,4 +1,4 @@
--- Marks grow by one node at a time, each as its parent's; a marked parent tells a sample of the group. Assumes nothing.
+-- Marks grow by one node at a time, each that of its parent; a sample is in the group exactly if its parent is marked. Assumes nothing.
 use Prim.Native.Nat.{ℕ, _+_, _≤_, _<_}
 use mathlib.Core.Path.{_≡_, sym, _∙_}
 use mathlib.Core.Logic.{_⊎_, inl, inr}

@@ -14,6 +14,6 @@ pub record Marked (n : ℕ) (row : List ℕ) (v u : ℕ) (marks : List Bool) : T
 abbrev pub parentMarked : List Bool → List ℕ → ℕ → Bool
 parentMarked marks row s = getD marks (parent row s) false
 
--- "Nodes m: n+1 to 2n-1", and n is at most 512
+-- a mark for each node: there are at most 512 samples (RULES 1.1), and fewer than twice as many nodes (RULES 1.2)
 abbrev pub markCount : ℕ
 markCount = 1024

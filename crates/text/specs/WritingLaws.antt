@@ -1,4 +1,4 @@
--- Texts put one behind the other are put together; a line that is put at the front is written; what is written is settled. Assumes nothing.
+-- Texts put one after the other are put together; a line that is put at the front is written; what is written is settled. Assumes nothing.
 use Prim.Native.Nat.{ℕ, suc, _+_, _≤_}
 use mathlib.Core.Path.{_≡_, refl, sym, ap, _∙_}
 use mathlib.Core.List.{List, [], _∷_, _++_}
@@ -14,7 +14,7 @@ pub sets-append : (l : List ℕ) (i : ℕ) (xs ys : List ℕ) → sets l i (xs +
 sets-append l i [] ys = rw add-zero
 sets-append l i (x ∷ xs) ys = rw (add-suc, ← suc-add) (sets-append (set l i x) (suc i) xs ys)
 
--- a store behind a run of stores may come before it
+-- a store at a place past a run of stores may come before it
 pub sets-set : (l : List ℕ) (i : ℕ) (xs : List ℕ) (j x : ℕ) → i + length xs ≤ j → sets (set l j x) i xs ≡ set (sets l i xs) j x
 sets-set l i [] j x h = refl
 sets-set l i (y ∷ xs) j x h = ap (λ (m : List ℕ). sets m (suc i) xs) (set-comm l j i x y (λ q. omega arith)) ∙ sets-set (set l i y) (suc i) xs j x (omega arith)

@@ -1,4 +1,4 @@
-// The lines that the listing program writes, as functions on slices of bytes.
+// The lines that the listing program writes (RULES 9.4 to 9.7), as functions on slices of bytes.
 mod lines;
 mod node;
 mod put;

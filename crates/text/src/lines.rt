@@ -13,7 +13,7 @@ use file::VERSION;
 // A buffer of this many bytes holds any line.
 pub const LINE_BYTES: usize = 4096;
 
-// A line of a text and numbers.
+// A line of a text and numbers (RULES 9.6).
 fn put_line(text: &[u8], fields: &[usize], out: &mut [u8]) -> usize
     requires { ⌜ length (now text) + fieldBytes * length (now fields) < length (now out) ⌝ }
     ensures { λ r. ⌜ Written (lineOf (now (text .entry)) (map decimal (now (fields .entry)))) (now (out .entry)) (now (out .exit)) r ⌝ }
@@ -23,7 +23,7 @@ fn put_line(text: &[u8], fields: &[usize], out: &mut [u8]) -> usize
     put_byte(b'\n', out, end)
 }
 
-// The first line: mark, version, samples, runs.
+// The first line (RULES 9.4).
 pub fn put_head(n: usize, k: usize, out: &mut [u8]) -> usize
     requires { ⌜ lineBytes ≤ length (now out) ⌝ }
     ensures { λ r. ⌜ Written (headLine n k) (now (out .entry)) (now (out .exit)) r ⌝ }
@@ -32,7 +32,7 @@ pub fn put_head(n: usize, k: usize, out: &mut [u8]) -> usize
     put_line(b"ARB", &fields, out)
 }
 
-// The line that ends a refusal: number, position of the slot, place.
+// The line of a refusal: its number, which slot it was, and its place (RULES 9.7).
 pub fn put_refusal(number: usize, slot: usize, place: usize, out: &mut [u8]) -> usize
     requires { ⌜ lineBytes ≤ length (now out) ⌝ }
     ensures { λ r. ⌜ Written (refusalLine number slot place) (now (out .entry)) (now (out .exit)) r ⌝ }

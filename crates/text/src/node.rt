@@ -1,4 +1,4 @@
-// The line of an inner node.
+// The line of an inner node (RULES 9.5).
 ghost use mathlib.Core.Path.{_≡_};
 ghost use mathlib.Core.Bool.{false};
 ghost use mathlib.Core.List.{[], _∷_, _++_, map};
@@ -31,7 +31,7 @@ fn unmarked() -> [bool; MARKS]
     [false; MARKS]
 }
 
-// Marks the inner nodes at or below v: v, and each later one as its parent.
+// Marks the inner nodes at or below v: v, and each later one whose parent is marked.
 fn marks_below(n: usize, row: &[u16], v: usize) -> [bool; MARKS]
     requires { ⌜ Standard n (now row) × (n ≤ v) × (v < nodes (now row)) ⌝ }
     ensures { λ r. ⌜ Marked n (now (row .entry)) v (nodes (now (row .entry))) r ⌝ }
@@ -48,7 +48,7 @@ fn marks_below(n: usize, row: &[u16], v: usize) -> [bool; MARKS]
     marks
 }
 
-// The samples whose parents are marked, each behind a space.
+// The samples whose parents are marked, a space before each.
 fn put_samples(n: usize, row: &[u16], marks: &[bool; MARKS], out: &mut [u8], at: usize) -> usize
     requires { ⌜ (n ≤ mostSamples) × (n < length (now row)) × (at + sampleBytes * n ≤ length (now out)) ⌝ }
     requires { ⌜ ((s : ℕ) → s < n → parent (now row) s < markCount) ⌝ }
@@ -67,7 +67,7 @@ fn put_samples(n: usize, row: &[u16], marks: &[bool; MARKS], out: &mut [u8], at:
     next
 }
 
-// The samples of inner node v, each behind a space.
+// The samples of inner node v, a space before each.
 fn put_group(n: usize, row: &[u16], v: usize, out: &mut [u8], at: usize) -> usize
     requires { ⌜ Standard n (now row) × (n ≤ v) × (v < nodes (now row)) × (at + sampleBytes * n ≤ length (now out)) ⌝ }
     ensures { λ r. ⌜ Put (spaced (map decimal (samplesOf n (groupAt n (now (row .entry)) v)))) (now (out .entry)) at (now (out .exit)) r ⌝ }
@@ -77,7 +77,7 @@ fn put_group(n: usize, row: &[u16], v: usize, out: &mut [u8], at: usize) -> usiz
     put_samples(n, row, &marks, out, at)
 }
 
-// A space and the parent of a node: `-` for the root.
+// A space and the parent of a node, or `-` if it is the root (RULES 9.5).
 fn put_parent(p: usize, out: &mut [u8], at: usize) -> usize
     requires { ⌜ at + fieldBytes ≤ length (now out) ⌝ }
     ensures { λ r. ⌜ Put (space ∷ parentField p) (now (out .entry)) at (now (out .exit)) r ⌝ }
@@ -100,7 +100,7 @@ fn put_front(v: usize, p: usize, support: usize, out: &mut [u8]) -> usize
     put_field(support, out, second)
 }
 
-// The line of inner node v: node, parent, support, then its samples rising.
+// The line of inner node v: its number, its parent, its support and its samples (RULES 9.5).
 pub fn put_node(n: usize, row: &[u16], support: &[u16], v: usize, out: &mut [u8]) -> usize
     requires { ⌜ Standard n (now row) × (length (now support) ≡ rowWords n) × (n ≤ v) × (v < nodes (now row)) × (lineBytes ≤ length (now out)) ⌝ }
     ensures { λ r. ⌜ Written (nodeLine n (now (row .entry)) (now (support .entry)) v) (now (out .entry)) (now (out .exit)) r ⌝ }

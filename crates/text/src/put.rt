@@ -1,4 +1,4 @@
-// Bytes, texts and numbers put into a buffer at a place: each answers the place behind what it put.
+// Bytes, texts and numbers put into a buffer at a place: each answers the place after what it put.
 ghost use mathlib.Core.Path.{_≡_};
 ghost use mathlib.Core.List.{[], _∷_, map};
 ghost use Prim.Native.Nat.{_+_, _*_, _<_, _≤_};
@@ -79,7 +79,7 @@ pub fn put_field(x: usize, out: &mut [u8], at: usize) -> usize
     put_number(x, out, next)
 }
 
-// Numbers, each behind a space.
+// Numbers, a space before each.
 pub fn put_fields(fields: &[usize], out: &mut [u8], at: usize) -> usize
     requires { ⌜ at + fieldBytes * length (now fields) ≤ length (now out) ⌝ }
     ensures { λ r. ⌜ Put (spaced (map decimal (now (fields .entry)))) (now (out .entry)) at (now (out .exit)) r ⌝ }

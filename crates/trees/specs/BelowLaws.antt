@@ -1,4 +1,4 @@
--- The nodes at or below a node of a standard row are found by one pass over rising numbers: each as its parent. Assumes nothing.
+-- The nodes at or below a node of a standard row are found by one pass over rising numbers: each is one if its parent is. Assumes nothing.
 use Prim.Native.Nat.{ℕ, _≤_, _<_}
 use mathlib.Core.Path.{_≡_, _∙_}
 use mathlib.Core.Logic.{⊎-elim}
@@ -20,7 +20,7 @@ module _ (n : ℕ) (r : List ℕ) (std : Standard n r) where
   pub above-low : (v u : ℕ) → n ≤ u → u < v → v < nodes r → meets (nodes r) r v u ≡ false
   above-low v u a h k = not-yes _ (not-up n r std u v a h k)
 
-  -- an inner node past v, and a sample, as its parent
+  -- an inner node past v, or a sample, is at or below v exactly if its parent is
   pub above-later : (v u : ℕ) → n ≤ v → v < u → u < nodes r → (n ≤ parent r u) × (parent r u < u) × (meets (nodes r) r v u ≡ meets (nodes r) r v (parent r u))
   above-later v u a h k =
       ⊎-elim (λ t. absurd (omega (arith, t .0)))

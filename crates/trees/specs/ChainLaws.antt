@@ -1,4 +1,4 @@
--- A chain of checks gives a number exactly when its check applies and every check before it passes, for any list of checks. Assumes nothing.
+-- A chain of checks refuses with a number exactly when its check applies and every check before it passes, for any list of checks. Assumes nothing.
 use Prim.Native.Nat.{ℕ}
 use mathlib.Core.Path.{_≡_, refl, sym, ap, _∙_}
 use mathlib.Core.Logic.{_↔_}
@@ -69,7 +69,7 @@ accepted-other k p e = let z : _≡_ {A = ℕ} 0 1 = cc in omega arith
 pub counted-other : (a b c : ℕ) → Unrefused (counted a b c)
 counted-other a b c k p e = let z : _≡_ {A = ℕ} 0 1 = cc in omega arith
 
--- what gives no refusal passes
+-- checks that do not refuse pass
 pub unrefused-passed : (cs : List Check) (v : Verdict) → Unrefused (cs ⊳ v) → Passed cs
 unfolding _⊳_
 unrefused-passed [] v x = tt
@@ -104,7 +104,7 @@ given-chain (c ∷ cs) v k p (later a g) = rw a (given-chain cs v k p g)
 
 -- ---- the same, of the list as a whole
 
--- Number k is given at p: a check of the list has this number and applies there, and every check that stands before it passes.
+-- When a list refuses with k at p: a check of it has this number and applies there, and every check that stands before it passes.
 pub record Exactly (k p : ℕ) (cs : List Check) : Type 0 where
   pub before : List Check
   pub check : Check
@@ -132,7 +132,7 @@ exactly-given : (bs : List Check) (c : Check) (ds : List Check) (k p : ℕ) → 
 exactly-given [] c ds k p a f h = here a f
 exactly-given (b ∷ bs) c ds k p a f h = later (h .0) (exactly-given bs c ds k p a f (h .1))
 
--- THE CHAIN LAW (RULES D1), for any list of checks: a number is given exactly when its check applies and every check that stands before it passes
+-- THE CHAIN LAW (RULES D1), for any list of checks: it refuses with a number exactly when its check applies and every check that stands before it passes
 pub refused-exactly : (cs : List Check) (v : Verdict) → Unrefused v → (k p : ℕ) → (cs ⊳ v ≡ refused k p) ↔ Exactly k p cs
 refused-exactly cs v x k p = (
   λ q. given-exactly cs k p (chain-given cs v k p (x k p) q),
@@ -161,13 +161,13 @@ unfoldable pub lacks : ℕ → List Check → Bool
 lacks k [] = true
 lacks k (c ∷ cs) = not (eqb (c .number) k) && lacks k cs
 
--- a number that no check has is not given
+-- there is no refusal with a number that no check has
 pub given-lacks : (cs : List Check) (k p : ℕ) → lacks k cs ≡ true → Given k p cs → ⊥
 unfolding lacks
 given-lacks (c ∷ cs) k p e (here a f) = eqb-false (c .number) k (not-true _ (and-l (not (eqb (c .number) k)) (lacks k cs) e)) a
 given-lacks (c ∷ cs) k p e (later f g) = given-lacks cs k p (and-r (not (eqb (c .number) k)) (lacks k cs) e) g
 
--- a number that one check alone has is given where that check applies, and those before it pass
+-- where a list refuses with a number that one check alone has, that check applies, and those before it pass
 pub given-alone : (bs : List Check) (c : Check) (ds : List Check) (k p : ℕ) → lacks k bs ≡ true → lacks k ds ≡ true
     → Given k p (bs ++ (c ∷ ds)) → Passed bs × (c .fault ≡ at p)
 unfolding lacks
@@ -178,9 +178,9 @@ given-alone (b ∷ bs) c ds k p e l (later f g) =
     let t = given-alone bs c ds k p (and-r (not (eqb (b .number) k)) (lacks k bs) e) l g in
     ((f, t .0), t .1)
 
--- ---- lines and places
+-- ---- checks and places
 
--- the place of a line is the lowest at which it applies
+-- the place of such a check is the lowest at which it applies (RULES 7.5)
 pub place-lowest : (k : ℕ) (t : ℕ → Bool) (a b p : ℕ) → (lineAt k t (range a b) .fault ≡ at p) ↔ Lowest t a b p
 place-lowest k t a b p = (first-lowest t a b p, lowest-first t a b p)
 

@@ -42,13 +42,13 @@ inner-to n m p e = (leb-true n p (and-l (leb n p) (ltb p m) e), ltb-true p m (an
 pub inner-from : (n m p : ℕ) → n ≤ p → p < m → isInner n m p ≡ true
 inner-from n m p h k = rw (le-leb n p h, lt-ltb p m k)
 
--- what a node's parent is, where it is not astray
+-- what a node's parent is, where it is not wrong
 pub stray-not : (n m v p : ℕ) → stray n m v p ≡ false → ((n ≤ p) × (p < m)) ⊎ ((n ≤ v) × (p ≡ rootMark))
 stray-not n m v p e = ⊎-elim (λ a. inl (inner-to n m p a))
     (λ b. inr (leb-true n v (and-l (leb n v) (eqb p rootMark) b), eqb-true p rootMark (and-r (leb n v) (eqb p rootMark) b)))
     (or-cases (isInner n m p) (leb n v && eqb p rootMark) (not-false _ e))
 
--- after check 6 the parents of nodes are nodes
+-- once check 6 is passed the parents of nodes are nodes
 pub check6-closed : (n : ℕ) (r : List ℕ) → check6 n r .fault ≡ nowhere → Closed (nodes r) r
 check6-closed n r e v h q = ⊎-elim (λ a. a .1) (λ b. absurd (eqb-false (parent r v) rootMark q (b .1)))
     (stray-not n (nodes r) v (parent r v) (first-nowhere _ 0 (nodes r) e v zero-le h))

@@ -1,4 +1,4 @@
--- What a row is judged by: the lines 1, 3 and 5 to 10 of document 01's table of numbers, and their order.
+-- What a row is judged by: checks 1, 3 and 5 to 10 (RULES 7.5), and their order.
 use Prim.Native.Nat.{ℕ, _+_, _-_, _*_}
 use mathlib.Core.List.{List, [], _∷_}
 use mathlib.Core.Bool.{Bool, _&&_, _||_, not, cond}
@@ -7,31 +7,31 @@ use lib.ListN.{length, getD}
 use Rattle.trees.specs.Lists.{Place, nowhere, at, range, first, count}
 use Rattle.trees.specs.Rows.{nodes, parent, rootMark, childOf, ends}
 
--- "A refusal is a number and a place." "An accepted call says so and nothing more, but for comparing's counts."
+-- An answer: acceptance, the number and the place of a refusal, or the counts of comparing (RULES 7.1).
 pub data Verdict : Type 0 where
   accepted : Verdict
   refused : ℕ → ℕ → Verdict
   counted : ℕ → ℕ → ℕ → Verdict
 
--- A line of the table: its number, and the place at which it applies, if it does.
+-- A check: its number, and the place at which it applies, if it does (RULES 7.5).
 pub record Check : Type 0 where
   pub number : ℕ
   pub fault : Place
 
--- "The place is 0 unless the table says otherwise."
+-- a check for which no place is named: its place is 0 (RULES 7.3)
 abbrev pub line : ℕ → Bool → Check
 line k applies = record { number = k; fault = cond applies (at 0) nowhere }
 
--- "lowest such node", "lowest such word"
+-- a check whose place is the lowest at which it applies (RULES 7.5)
 abbrev pub lineAt : ℕ → (ℕ → Bool) → List ℕ → Check
 lineAt k applies places = record { number = k; fault = first applies places }
 
--- the refusal of a line that applies, and v where it does not
+-- the refusal of a check that applies, and v where it does not
 abbrev pub orElse : ℕ → Place → Verdict → Verdict
 orElse k nowhere v = v
 orElse k (at p) v = refused k p
 
--- "Checks go in rising order of number": the first that applies is the verdict, and where none does, it is v
+-- the first check of a list that applies is the verdict, and where none does, it is v (RULES 7.2)
 infixr 20 _⊳_
 unfoldable pub _⊳_ : List Check → Verdict → Verdict
 [] ⊳ v = v
@@ -41,71 +41,73 @@ unfoldable pub _⊳_ : List Check → Verdict → Verdict
 abbrev pub asked : Check → Verdict
 asked c = orElse (c .number) (c .fault) accepted
 
--- "Samples n: 2 to 512"
+-- how few samples there can be, and how many (RULES 1.1)
 abbrev pub fewestSamples : ℕ
 fewestSamples = 2
 
 abbrev pub mostSamples : ℕ
 mostSamples = 512
 
--- "2n words", "Nodes m: n+1 to 2n-1"
+-- how many words a row has (RULES 2.1); it has fewer nodes (RULES 1.2)
 abbrev pub rowWords : ℕ → ℕ
 rowWords n = 2 * n
 
--- whether x is outside a to b
+-- whether x is below a or above b
 abbrev pub outside : ℕ → ℕ → ℕ → Bool
 outside a b x = ltb x a || ltb b x
 
--- whether p is an inner node, of m nodes
+-- whether p is an inner node, of m nodes (RULES 1.2)
 abbrev pub isInner : ℕ → ℕ → ℕ → Bool
 isInner n m p = leb n p && ltb p m
 
--- "n outside 2 to 512"
+-- check 1: too few samples, or too many (RULES 7.5)
 abbrev pub check1 : ℕ → Check
 check1 n = line 1 (outside fewestSamples mostSamples n)
 
--- "a row or output buffer is not 2n words", of one buffer
+-- check 3, of one buffer: it is not as long as a row (RULES 7.5)
 abbrev pub check3 : ℕ → List ℕ → Check
 check3 n r = line 3 (not (eqb (length r) (rowWords n)))
 
--- "m outside n+1 to 2n-1"
+-- check 5: too few nodes, or too many (RULES 7.5)
 abbrev pub check5 : ℕ → List ℕ → Check
 check5 n r = line 5 (outside (n + 1) (rowWords n - 1) (nodes r))
 
--- "a leaf's parent is not an inner node, or an inner node's is neither that nor 65535"
+-- whether p is wrong as the parent of v: not an inner node, nor, where v is one, the root's mark (check 6, RULES 7.5)
 abbrev pub stray : ℕ → ℕ → ℕ → ℕ → Bool
 stray n m v p = not (isInner n m p || (leb n v && eqb p rootMark))
 
+-- check 6: a wrong parent, at the lowest node that has one (RULES 7.5)
 abbrev pub check6 : ℕ → List ℕ → Check
 check6 n r = lineAt 6 (λ v. stray n (nodes r) v (parent r v)) (range 0 (nodes r))
 
--- "the number of inner nodes with parent 65535 is not one"
+-- check 7: no root among the inner nodes, or more than one (RULES 7.5)
 abbrev pub check7 : ℕ → List ℕ → Check
 check7 n r = line 7 (not (eqb (count (childOf r rootMark) (range n (nodes r))) 1))
 
--- "filler not 0"; "Words after 1+(m-1) are filler"
+-- check 8: a word after the last node's that is not 0, the lowest of them (RULES 7.5)
 abbrev pub check8 : ℕ → List ℕ → Check
 check8 n r = lineAt 8 (λ w. not (eqb (getD r w 0) 0)) (range (nodes r + 1) (rowWords n))
 
--- "a node from which the parents never reach the root": m steps decide it (`judged-never`)
+-- check 9: the lowest node whose way up never comes to the root (RULES 7.5); m steps decide it (`judged-never`)
 abbrev pub check9 : ℕ → List ℕ → Check
 check9 n r = lineAt 9 (λ v. not (ends (nodes r) r v)) (range 0 (nodes r))
 
--- "an inner node with fewer than two children"
+-- how many children v has (check 10, RULES 7.5)
 abbrev pub children : List ℕ → ℕ → ℕ
 children r v = count (childOf r v) (range 0 (nodes r))
 
+-- check 10: the lowest inner node with one child or none (RULES 7.5)
 abbrev pub check10 : ℕ → List ℕ → Check
 check10 n r = lineAt 10 (λ v. ltb (children r v) 2) (range n (nodes r))
 
--- "5 to 10"
+-- checks 5 to 10, by rising number (RULES 7.2)
 unfoldable pub rowChecks : ℕ → List ℕ → List Check
 rowChecks n r = check5 n r ∷ check6 n r ∷ check7 n r ∷ check8 n r ∷ check9 n r ∷ check10 n r ∷ []
 
--- the checks of judging a row
+-- the checks of judging a row (RULES 7.2)
 unfoldable pub judgeChecks : ℕ → List ℕ → List Check
 judgeChecks n r = check1 n ∷ check3 n r ∷ rowChecks n r
 
--- what judging a row answers; it "writes nothing"
+-- what judging a row answers; nothing is written (RULES 7.6)
 unfoldable pub judged : ℕ → List ℕ → Verdict
 judged n r = judgeChecks n r ⊳ accepted

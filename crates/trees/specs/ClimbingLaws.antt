@@ -35,7 +35,7 @@ module _ {n : ℕ} {r : List ℕ} (std : Standard n r) where
   above-low : (w v : ℕ) → Above r w v → n ≤ v → w < nodes r → w ≤ v
   above-low w v m a h = ⊎-elim (λ l. absurd (not-up n r std v w a l h m)) (λ l. l) (side w v)
 
-  -- what has a node's sample and a lower number is not behind its parent
+  -- a node of a lower number that has a sample of v does not come after the parent of v
   parent-last : (v w s : ℕ) → n ≤ w → w < v → v < nodes r → has (groupAt n r v) s ≡ true → has (groupAt n r w) s ≡ true → w ≤ parent r v
   parent-last v w s a h k e f = ⊎-elim up (λ m. absurd (not-up n r std w v a h k m))
       (meets-line r (nodes r) v w s (group-has n r v s e .1) (group-has n r w s f .1))

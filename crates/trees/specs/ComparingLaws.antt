@@ -43,7 +43,7 @@ count-not t (g ∷ gs) = go (t g) (count-not t gs)
     go true h = omega arith
     go false h = omega arith
 
--- "groups in both rows" is one number
+-- how many groups both have is the same from either side (RULES 8.1)
 pub shared-comm : (n : ℕ) (r q : List ℕ) → shared n r q ≡ shared n q r
 shared-comm n r q = count-filter _ (groupSet n r)
     ∙ ap length (strict-unique (filter (λ g. member g (groupSet n q)) (groupSet n r)) (filter (λ g. member g (groupSet n r)) (groupSet n q))

@@ -9,7 +9,7 @@ use Rattle.trees.specs.Rows.{nodes, parent, rootMark}
 use Rattle.trees.specs.Scans.{never}
 use Rattle.trees.specs.Checks.{mostSamples, rowWords, isInner}
 
--- Parents are in range and of smaller numbers, and the first inner node is the root. No validity is in it: an inner node may have one child, or none.
+-- Parents are in range and have smaller numbers, and the first inner node is the root. The row need not be valid: an inner node may have one child, or none.
 pub record Falls (n : ℕ) (r : List ℕ) : Type 0 where
   pub most : n ≤ mostSamples
   pub words : length r ≡ rowWords n

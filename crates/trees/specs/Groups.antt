@@ -1,4 +1,4 @@
--- Groups of samples, their order, and when two of them agree.
+-- Groups of samples, their order, and when two of them agree (RULES 3 and 4).
 use Prim.Native.Nat.{ℕ, suc}
 use mathlib.Core.List.{List, [], _∷_}
 use mathlib.Core.Bool.{Bool, true, false, _&&_, _||_, not}
@@ -14,7 +14,7 @@ Group = List Bool
 abbrev pub has : Group → ℕ → Bool
 has g s = getD g s false
 
--- the group of all n samples, and that of one of them
+-- the trivial groups: all n samples, and one of them alone (RULES 3.3)
 abbrev pub whole : ℕ → Group
 whole n = replicate n true
 
@@ -33,23 +33,23 @@ lowest [] = 0
 lowest (true ∷ g) = 0
 lowest (false ∷ g) = suc (lowest g)
 
--- "A group of one sample, or of all, is trivial."
+-- whether it is one sample alone, or all of them (RULES 3.3)
 abbrev pub trivial : Group → Bool
 trivial g = eqb (size g) 1 || eqb (size g) (length g)
 
--- whether h contains g
+-- whether g lies within h
 unfoldable pub within : Group → Group → Bool
 within [] h = true
 within (x ∷ g) [] = not x && within g []
 within (x ∷ g) (y ∷ h) = (not x || y) && within g h
 
--- whether g and h share no sample
+-- whether g and h have no sample in common
 unfoldable pub apart : Group → Group → Bool
 apart [] h = true
 apart (x ∷ g) [] = true
 apart (x ∷ g) (y ∷ h) = not (x && y) && apart g h
 
--- "Two groups agree if one contains the other or they share no sample; otherwise they conflict."
+-- whether one lies within the other or they have no sample in common; if not, they are in conflict (RULES 3.4)
 abbrev pub agree : Group → Group → Bool
 agree g h = within g h || within h g || apart g h
 
@@ -77,8 +77,7 @@ listFirst (true ∷ g) (false ∷ h) = true
 listFirst (false ∷ g) (true ∷ h) = false
 listFirst (false ∷ g) (false ∷ h) = listFirst g h
 
--- By falling size, then by rising sample lists. Of groups that agree this is "by falling group size, and where sizes
--- are equal by rising smallest sample" (`before-falling`).
+-- Larger groups first, then by rising sample lists. Of groups that agree this is the order of RULES 4.1 (`before-falling`).
 unfoldable pub before : Group → Group → Bool
 before g h = ltb (size h) (size g) || (eqb (size g) (size h) && listFirst g h)
 

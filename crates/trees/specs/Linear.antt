@@ -1,4 +1,4 @@
--- What one linear look at a row tells of standard numbering (`linear-standard`).
+-- Whether a row is in standard numbering, by one linear look at it (`linear-standard`).
 use Prim.Native.Nat.{ℕ, suc, _+_, _-_}
 use mathlib.Core.List.{List}
 use mathlib.Core.Bool.{Bool, _&&_, not}
@@ -10,11 +10,11 @@ use Rattle.trees.specs.Scans.{never}
 use Rattle.trees.specs.Falls.{falling}
 use Rattle.trees.specs.Tables.{sizeAt, rankAt}
 
--- m nodes are neither too few nor too many
+-- m nodes are neither too few nor too many (RULES 1.2)
 abbrev pub spans : ℕ → ℕ → Bool
 spans n m = ltb n m && ltb m (rowWords n)
 
--- "Words after 1+(m-1) are filler and must be 0."
+-- every word of the filler is 0 (RULES 2.3)
 abbrev pub littered : List ℕ → ℕ → Bool
 littered r w = not (eqb (getD r w 0) 0)
 

@@ -1,4 +1,4 @@
--- One linear look at a row tells whether it is standard: strict order of ranks and two samples in the last node imply two children each. Assumes nothing.
+-- One linear look at a row decides whether it is standard: strict order of ranks and two samples in the last node imply two children each. Assumes nothing.
 use Prim.Native.Nat.{ℕ, zero, suc, _+_, _-_, _≤_, _<_, zero-le}
 use mathlib.Core.Path.{_≡_, refl, sym, ap, _∙_}
 use mathlib.Core.Logic.{⊎-elim}
@@ -161,7 +161,7 @@ module _ (n : ℕ) (r : List ℕ) (ok : Falls n r) (rise : rising (rankAt n r) n
         ∙ lt-ltb _ _ l));
   }
 
--- ---- THE LINEAR CHECK TELLS WHETHER A ROW IS STANDARD
+-- ---- THE LINEAR CHECK DECIDES WHETHER A ROW IS STANDARD
 
 module _ (n : ℕ) (r : List ℕ) (most : n ≤ mostSamples) (words : length r ≡ rowWords n) where
   linear-to : linear n r ≡ true → Standard n r

@@ -9,7 +9,7 @@ unfoldable pub tabulate : {A : Type 0} → ℕ → (ℕ → A) → ℕ → List 
 tabulate zero f s = []
 tabulate (suc n) f s = f s ∷ tabulate n f (suc s)
 
--- n words 0
+-- n words, each of them 0
 abbrev pub zeros : ℕ → List ℕ
 zeros n = replicate n 0
 

@@ -28,11 +28,11 @@ blank = zeros tableWords
 abbrev pub rankEnd : ℕ
 rankEnd = 1048576
 
--- the rank of node v by its row's tables, and behind the last node that number
+-- the rank of node v by its row's tables, and after the last node that number
 unfoldable pub rankOrEnd : ℕ → ℕ → List ℕ → List ℕ → ℕ → ℕ
 rankOrEnd n m sizes lows v = cond (ltb v m) (rankIn n sizes lows v) rankEnd
 
--- of two nodes of ranks p and q that of the smaller takes the next number, and both do where they are equal; low is the smallest sample
+-- of two nodes of ranks p and q the one of smaller rank takes the next number, and both do where ranks are equal; low is the smallest sample
 pub record Chosen (p q : ℕ) (first second : Bool) (low : ℕ) : Type 0 where
   pub left : first ≡ leb p q
   pub right : second ≡ leb q p

@@ -89,7 +89,7 @@ module _ {n : ℕ} {gs : List Group} (fam : Family n gs) {r : List ℕ} {keep : 
         let p = number-group (u .0) (u .1) (u .2) (number-kept (u .0) (u .1) (u .2) (λ q. omega (arith, u .4, two n gs fam))) in
         rw (u .4, p .2) (u .3)
 
-    -- no kept group behind it has s
+    -- no kept group after it has s
     best-last : (l : ℕ) → l < length gs → n + l < i → In (nth gs l) (kept n r keep) → has (nth gs l) s ≡ true → n + l ≤ k
     best-last l h j m e =
         let v = in-kept n r keep n (nth gs l) m in

@@ -1,4 +1,4 @@
--- Two numbers have three ways, and a scan finds nothing exactly if nothing passes, number by number. Assumes nothing.
+-- Of two numbers one is smaller or they are equal, and a scan finds nothing exactly if nothing passes, number by number. Assumes nothing.
 use Prim.Native.Nat.{ℕ, _+_, _≤_, _<_}
 use mathlib.Core.Path.{_≡_, refl, sym, ap, _∙_}
 use mathlib.Core.Logic.{_⊎_, inl, inr, ⊎-elim}
@@ -12,7 +12,7 @@ use Rattle.trees.specs.Scans.{isNowhere, never}
 use Rattle.trees.specs.BoolLaws.{true-eq, decide}
 use Rattle.trees.specs.ListLaws.{first-end, first-hit, first-pass, first-nowhere, nowhere-first}
 
--- ---- below or not, and the three ways of two numbers
+-- ---- below or not; and of two numbers: below, equal or above
 
 pub side : (n i : ℕ) → (i < n) ⊎ (n ≤ i)
 side n i = ⊎-elim (λ e. inl (ltb-true i n e)) (λ e. inr (ltb-false i n e)) (decide (ltb i n))

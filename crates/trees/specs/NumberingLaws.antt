@@ -74,7 +74,7 @@ module _ (n : ℕ) (gs : List Group) (tree : Tree n gs) (strict : Strict gs) (le
   pub tree-standard : Standard n (rowOf n (branching gs))
   tree-standard = planted-standard n (branching gs) tree-family most
 
-  -- the row has exactly these groups, single samples and the whole among them
+  -- the row has exactly these groups, the trivial ones among them
   pub tree-groups : (x : Group) → member x (groups n (rowOf n (branching gs))) ≡ member x gs
   tree-groups x = rw (groups-split n (rowOf n (branching gs)) (tree-standard .valid), planted n (branching gs) tree-family most, member-append)
       (true-eq _ _ (λ e. ⊎-elim one (λ m. in-branching gs x m .1) (or-cases (member x (tabulate n (single n) 0)) (member x (branching gs)) e)) two)
@@ -158,6 +158,6 @@ standard-renumbered n r std = ap (rowOf n)
             branching-in (groupSet n r) x
             (rw (← (t .3)) (inner-two n r ok (t .0) (t .1) (t .2))) (member-set n r x ∙ (rw (← (t .3)) (groups-in n r (t .0) (t .2))))
 
--- "the tree exists and is unique": two standard rows with equal groups are equal
+-- there is no other such tree (RULES 5.3): two standard rows with equal groups are equal
 pub standard-unique : (n : ℕ) (r q : List ℕ) → Standard n r → Standard n q → ((x : Group) → member x (groups n r) ≡ member x (groups n q)) → r ≡ q
 standard-unique n r q a b e = sym (standard-renumbered n r a) ∙ renumbered-same n r q e ∙ standard-renumbered n q b

@@ -1,4 +1,4 @@
--- `before` is a strict total order of all groups, and of groups that agree it is document 01's. Assumes nothing.
+-- `before` is a strict total order of all groups, and of groups that agree it is that of RULES 4.1. Assumes nothing.
 use Prim.Native.Nat.{ℕ, suc, _≤_, _<_}
 use mathlib.Core.Path.{_≡_, refl, sym, ap, _∙_}
 use mathlib.Core.Logic.{_↔_, _⊎_, inl, inr, ⊎-elim}
@@ -116,7 +116,7 @@ before-size g h e = elim (before-to g h e) [ larger p ↦ omega arith | level p 
 
 -- ---- of groups that agree
 
--- "Two different groups of one tree with equal size share no sample, so no tie is left."
+-- no tie can remain: groups that agree, of one size and not the same, have no sample in common (RULES 4.3)
 pub level-apart : (g h : Group) → length g ≡ length h → Agree g h → (g ≡ h → ⊥) → size g ≡ size h → Apart g h
 level-apart g h l (under f) x z = absurd (x (within-eq g h l f (omega arith)))
 level-apart g h l (over f) x z = absurd (x (sym (within-eq h g (sym l) f (omega arith))))
@@ -131,7 +131,7 @@ list-lowest (true ∷ g) (false ∷ h) f a b = sym (lt-ltb 0 (suc (lowest h)) (o
 list-lowest (false ∷ g) (true ∷ h) f a b = sym (le-ltb (suc (lowest g)) 0 (omega arith))
 list-lowest (false ∷ g) (false ∷ h) f a b = list-lowest g h (λ s. f (suc s)) a b ∙ sym (leb·suc-suc (suc (lowest g)) (lowest h))
 
--- "by falling group size, and where sizes are equal by rising smallest sample"
+-- larger groups first, and of one size that with the smaller smallest sample (RULES 4.1)
 pub before-falling : (g h : Group) → length g ≡ length h → Agree g h → (g ≡ h → ⊥) → 0 < size g → 0 < size h
     → before g h ≡ (ltb (size h) (size g) || (eqb (size g) (size h) && ltb (lowest g) (lowest h)))
 unfolding before

@@ -1,4 +1,4 @@
--- The report: what runs hold, the groups that a rule shows, and the two rows that are written.
+-- The report (RULES 5): what runs hold, the groups that a rule shows, and the two rows that are written.
 use Prim.Native.Nat.{ℕ, _+_, _-_, _*_, _/_}
 use mathlib.Core.List.{List, [], _∷_, _++_, map}
 use mathlib.Core.Bool.{Bool, true}
@@ -9,20 +9,20 @@ use Rattle.trees.specs.Rows.{nodes, groups, holds}
 use Rattle.trees.specs.Checks.{rowWords}
 use Rattle.trees.specs.Numbering.{ordered, branching, rowOf}
 
--- a run: "identifier, then the row"
+-- a run: its identifier, and its tree as a row (RULES 6.3)
 pub record Run : Type 0 where
   pub identifier : ℕ
   pub row : List ℕ
 
--- what a run counts for
+-- what a run counts for (RULES 5.1)
 abbrev pub worth : Run → ℕ
 worth run = 1
 
--- "the number of runs holding the group"
+-- how many runs hold a group: s (RULES 5.1)
 unfoldable pub support : ℕ → List Run → Group → ℕ
 support n rs g = weigh worth (λ run. holds n g (run .row)) rs
 
--- "k runs in force"
+-- how many runs are in force: k (RULES 5.1)
 unfoldable pub total : List Run → ℕ
 total rs = weigh worth (λ run. true) rs
 
@@ -30,7 +30,7 @@ total rs = weigh worth (λ run. true) rs
 abbrev pub Rule : Type 0
 Rule = ℕ → List Run → Group → Bool
 
--- "a group is in the agreed tree exactly when twice the number of runs holding it is greater than k. Exactly half is too few."
+-- 2s > k: more than half of the runs hold the group (RULES 5.1), and half is not enough (RULES 5.2)
 abbrev pub majority : Rule
 majority n rs g = ltb (total rs) (2 * support n rs g)
 
@@ -39,15 +39,15 @@ unfoldable pub held : ℕ → List Run → List Group
 held n [] = []
 held n (run ∷ rs) = groups n (run .row) ++ held n rs
 
--- the groups that some run holds and the rule passes, in order
+-- the groups that some run holds and the rule passes, in order (RULES 5.1)
 unfoldable pub shown : Rule → ℕ → List Run → List Group
 shown rule n rs = filter (rule n rs) (ordered (held n rs))
 
--- "the agreed row"
+-- the agreed row: the tree of the groups that are shown (RULES 5.4)
 unfoldable pub agreed : Rule → ℕ → List Run → List ℕ
 agreed rule n rs = rowOf n (branching (shown rule n rs))
 
--- "In the support row word 0 is k, word 1+v is the number of runs holding the group of node v, and filler is 0."
+-- the support row: k, then the support of each node of the agreed row, then filler (RULES 5.5)
 unfoldable pub supports : Rule → ℕ → List Run → List ℕ
 supports rule n rs = let r = agreed rule n rs in total rs ∷ (map (support n rs) (groups n r) ++ zeros (rowWords n - 1 - nodes r))
 

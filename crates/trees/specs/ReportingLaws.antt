@@ -124,17 +124,17 @@ module _ (rule : Rule) (n : ℕ) (rs : List Run) (ok : Runs n rs) (some : 0 < le
   pub supports-length : length (supports rule n rs) ≡ rowWords n
   supports-length = ap length words ∙ simp (length-append, length-tabulate, length-zeros) (omega (arith, agreed-standard .valid .high))
 
-  -- "word 0 is k"
+  -- its first word is k (RULES 5.5)
   pub supports-first : getD (supports rule n rs) 0 0 ≡ total rs
   supports-first = ap (λ (ws : List ℕ). getD ws 0 0) words
 
-  -- "word 1+v is the number of runs holding the group of node v"
+  -- the word of node v is how many runs hold its group (RULES 5.5)
   pub supports-node : (v : ℕ) → v < nodes (agreed rule n rs) → getD (supports rule n rs) (suc v) 0 ≡ support n rs (groupAt n (agreed rule n rs) v)
   supports-node v h = ap (λ (ws : List ℕ). getD ws (suc v) 0) words
       ∙ List·getD-append (tabulate m at-node 0) (zeros (rowWords n - 1 - m)) 0 v (rw length-tabulate h) ∙ getD-tabulate m at-node 0 v 0 h
       ∙ ap at-node (zero-add v)
 
-  -- "filler is 0"
+  -- the words after the last node's are 0 (RULES 5.5)
   pub supports-filler : (w : ℕ) → nodes (agreed rule n rs) < w → getD (supports rule n rs) w 0 ≡ 0
   supports-filler zero h = absurd (omega arith)
   supports-filler (suc w) h =
@@ -153,7 +153,7 @@ pub support-most : (n : ℕ) (rs : List Run) (g : Group) → support n rs g ≤ 
 unfolding support total
 support-most n rs g = weigh-mono worth (λ run. holds n g (run .row)) (λ run. true) rs (λ run m e. refl)
 
--- "twice the number of runs holding it is greater than k"
+-- a group that passes has 2s > k (RULES 5.1)
 pub majority-more : (n : ℕ) (rs : List Run) (g : Group) → majority n rs g ≡ true → total rs < 2 * support n rs g
 majority-more n rs g e = ltb-true _ _ e
 
@@ -162,7 +162,7 @@ pub majority-held : (n : ℕ) (rs : List Run) (g : Group) → majority n rs g �
 unfolding support
 majority-held n rs g e = weigh-found worth (λ run. holds n g (run .row)) rs (omega (arith, majority-more n rs g e))
 
--- two groups each held by more than half of the runs are held together by one run
+-- two groups each held by more than half of the runs are held together by one run (RULES 5.3)
 pub majority-together : (n : ℕ) (rs : List Run) (g h : Group) → majority n rs g ≡ true → majority n rs h ≡ true
     → (run : Run) × List·Memᴰ run rs × (holds n g (run .row) ≡ true) × (holds n h (run .row) ≡ true)
 unfolding support total
@@ -195,14 +195,14 @@ module _ (n : ℕ) (rs : List Run) (ok : Runs n rs) (some : 0 < length rs) where
   pub majority-standard : Standard n (agreed majority n rs)
   majority-standard = agreed-standard majority n rs ok some majority-sound
 
-  -- DEMAND 2, of the definition: of all groups whatever, exactly those held by more than half of the runs are groups of the agreed row
+  -- DEMAND 2, of the definition: of all groups whatever, exactly those held by more than half of the runs are groups of the agreed row (RULES D2)
   pub majority-groups : (g : Group) → member g (groups n (agreed majority n rs)) ≡ ltb (length rs) (2 * support n rs g)
   majority-groups g = agreed-groups majority n rs ok some majority-sound g ∙ shown-member majority n rs g
       ∙ true-eq (majority n rs g && member g (held n rs)) (majority n rs g) (and-l _ (member g (held n rs)))
       (λ e. and-both _ _ e (in-held n rs g (majority-held n rs g e)))
       ∙ ap (λ (k : ℕ). ltb k (2 * support n rs g)) (total-length rs)
 
-  -- "Each support of a shown node is more than half of k and at most k."
+  -- each shown node has a support above k/2, and of k at most (RULES 5.6)
   pub majority-supports : (v : ℕ) → v < nodes (agreed majority n rs)
       → (length rs < 2 * support n rs (groupAt n (agreed majority n rs) v)) × (support n rs (groupAt n (agreed majority n rs) v) ≤ length rs)
   majority-supports v h = let g = groupAt n (agreed majority n rs) v in

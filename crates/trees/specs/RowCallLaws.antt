@@ -26,7 +26,7 @@ use Rattle.trees.specs.ValidLaws.{passed-valid, valid-passed}
 use Rattle.trees.specs.NumberingLaws.{renumbered-standard, renumbered-groups, renumbered-same}
 use Rattle.trees.specs.OutcomeLaws.{outcome-refused, outcome-accepted}
 
--- ---- two buffers of 2n words
+-- ---- the lengths of two buffers
 
 pub both-lengths : (n : ℕ) (r q : List ℕ) → check3Both n r q .fault ≡ nowhere → (length r ≡ rowWords n) × (length q ≡ rowWords n)
 both-lengths n r q e =
@@ -135,7 +135,7 @@ module _ (n : ℕ) (r q : List ℕ) where
           passed-chain (compareChecks n r q) (compared n r q) (h .0, (both-fit n r q (t .0 .words) (t .1 .words),
           passed-append (rowChecks n r) (map (moved (rowWords n)) (rowChecks n q)) (h .1 .1) (moved-passed (rowWords n) (rowChecks n q) .1 (k .1 .1))))
 
--- a verdict whose place has d added
+-- a verdict with d added to its place
 abbrev pub movedVerdict : ℕ → Verdict → Verdict
 movedVerdict d accepted = accepted
 movedVerdict d (refused k p) = refused k (p + d)

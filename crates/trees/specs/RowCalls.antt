@@ -1,4 +1,4 @@
--- What renumbering and comparing answer and leave.
+-- What renumbering and comparing answer and leave (RULES 7 and 8).
 use Prim.Native.Nat.{ℕ, _+_}
 use mathlib.Core.List.{List, _∷_, _++_, map}
 use mathlib.Core.Bool.{_||_, not}
@@ -10,19 +10,19 @@ use Rattle.trees.specs.Numbering.{renumbered}
 use Rattle.trees.specs.Comparing.{compared}
 use Rattle.trees.specs.Outcomes.{Outcome, outcome}
 
--- "a row or output buffer is not 2n words", of two buffers
+-- check 3, of two buffers: one of them is not as long as a row (RULES 7.5)
 abbrev pub check3Both : ℕ → List ℕ → List ℕ → Check
 check3Both n r q = line 3 (not (eqb (length r) (rowWords n)) || not (eqb (length q) (rowWords n)))
 
--- the checks of renumbering: its row and its output are 2n words each
+-- the checks of renumbering, check 3 being of its row and of its output (RULES 7.5)
 unfoldable pub renumberChecks : ℕ → List ℕ → List ℕ → List Check
 renumberChecks n r out = check1 n ∷ check3Both n r out ∷ rowChecks n r
 
--- "Renumbering reads one buffer and writes another."
+-- what renumbering answers, and the buffer that it writes; the other is only read (RULES 7.6)
 unfoldable pub renumbering : ℕ → List ℕ → List ℕ → Outcome
 renumbering n r out = outcome (renumberChecks n r out) out (renumbered n r)
 
--- a check whose place has d added
+-- a check with d added to its place (RULES 7.7)
 abbrev pub movedPlace : ℕ → Place → Place
 movedPlace d nowhere = nowhere
 movedPlace d (at p) = at (p + d)
@@ -30,10 +30,10 @@ movedPlace d (at p) = at (p + d)
 abbrev pub moved : ℕ → Check → Check
 moved d c = record { number = c .number; fault = movedPlace d (c .fault) }
 
--- "Comparing checks 1, then 3, then 5 to 10 for the first row, then 5 to 10 for the second, whose places have 2n added."
+-- the checks of comparing: 1, 3 of both rows, those of the first row, and those of the second with 2n added to the place (RULES 7.7)
 unfoldable pub compareChecks : ℕ → List ℕ → List ℕ → List Check
 compareChecks n r q = check1 n ∷ check3Both n r q ∷ (rowChecks n r ++ map (moved (rowWords n)) (rowChecks n q))
 
--- what comparing answers: a refusal, or its three counts
+-- what comparing answers: a refusal, or its three counts (RULES 7.1)
 unfoldable pub comparing : ℕ → List ℕ → List ℕ → Verdict
 comparing n r q = compareChecks n r q ⊳ compared n r q

@@ -1,4 +1,4 @@
--- A row: one tree in 2n words, its nodes, its parents and its groups.
+-- A row: its nodes, its parents (RULES 2) and its groups (RULES 3).
 use Prim.Native.Nat.{ℕ, zero, suc, _-_}
 use mathlib.Core.List.{List}
 use mathlib.Core.Bool.{Bool, false, _&&_, _||_, not}
@@ -7,14 +7,15 @@ use lib.ListN.{getD}
 use Rattle.trees.specs.Lists.{tabulate}
 use Rattle.trees.specs.Groups.{Group, member}
 
--- "Word 0 is m."
+-- m, the number of nodes (RULES 2.1)
 unfoldable pub nodes : List ℕ → ℕ
 nodes r = getD r 0 0
 
--- "Word 1+v is the parent of node v, for v from 0 to m-1; 65535 means that v is the root."
+-- the parent of node v (RULES 2.2)
 unfoldable pub parent : List ℕ → ℕ → ℕ
 parent r v = getD r (suc v) 0
 
+-- what the root has in place of a parent (RULES 2.2)
 abbrev pub rootMark : ℕ
 rootMark = 65535
 
@@ -32,18 +33,18 @@ unfoldable pub ends : ℕ → List ℕ → ℕ → Bool
 ends zero r v = false
 ends (suc f) r v = childOf r rootMark v || ends f r (parent r v)
 
--- "The group of a node is the set of samples at or below it." A way up that comes to a root does so within m steps (`ends-enough`).
+-- the samples that are node v or stand below it (RULES 3.1); a way up that comes to a root does so within m steps (`ends-enough`)
 unfoldable pub groupAt : ℕ → List ℕ → ℕ → Group
 groupAt n r v = tabulate n (meets (nodes r) r v) 0
 
--- "The groups of a tree are those of all its nodes."
+-- the groups of a tree, node by node (RULES 3.2)
 unfoldable pub groups : ℕ → List ℕ → List Group
 groups n r = tabulate (nodes r) (groupAt n r) 0
 
--- "Inner nodes are n to m-1": their groups, by number
+-- the groups of the inner nodes, by number (RULES 1.2)
 unfoldable pub inner : ℕ → List ℕ → List Group
 inner n r = tabulate (nodes r - n) (groupAt n r) n
 
--- "runs holding it": whether a group is one of a run's row
+-- whether a run with this row holds a group (RULES 5.1)
 abbrev pub holds : ℕ → Group → List ℕ → Bool
 holds n g r = member g (groups n r)

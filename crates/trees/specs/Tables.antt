@@ -53,7 +53,7 @@ sizeAt n r v = size (groupAt n r v)
 abbrev pub leastAt : ℕ → List ℕ → (ℕ → ℕ) → ℕ → ℕ
 leastAt n r k v = leastOf k (groupAt n r v)
 
--- "by falling group size, and where sizes are equal by rising smallest sample", as one number that rises
+-- the order of RULES 4.1 as one number that rises: the size weighs most, then the smallest sample
 abbrev pub rankStep : ℕ
 rankStep = 1024
 

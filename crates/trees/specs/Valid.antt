@@ -1,4 +1,4 @@
--- What it means that a row is valid, and that it is in standard numbering.
+-- What it means that a row is valid (RULES 7.5), and that it is in standard numbering (RULES 4).
 use Prim.Native.Nat.{ℕ, _≤_, _<_}
 use mathlib.Core.Path.{_≡_}
 use mathlib.Core.Logic.{_⊎_}
@@ -10,7 +10,7 @@ use Rattle.trees.specs.Groups.{Group, before, member}
 use Rattle.trees.specs.Rows.{nodes, parent, rootMark, childOf, ends, inner}
 use Rattle.trees.specs.Checks.{Verdict, accepted, refused, counted, fewestSamples, mostSamples, rowWords, children, judged}
 
--- A row that judging accepts (`judged-valid`, `valid-judged`).
+-- A row to which none of checks 1, 3 and 5 to 10 applies (RULES 7.5); judging accepts these and no others (`judged-valid`, `valid-judged`).
 pub record Valid (n : ℕ) (r : List ℕ) : Type 0 where
   pub least : fewestSamples ≤ n
   pub most : n ≤ mostSamples
@@ -28,12 +28,12 @@ pub record Valid (n : ℕ) (r : List ℕ) : Type 0 where
 abbrev pub In : Group → List Group → Type 0
 In g gs = member g gs ≡ true
 
--- each group before all later ones
+-- each group before all later ones (RULES 4.1)
 abbrev pub Strict : List Group → Type 0
 Strict [] = Unit {0}
 Strict (g ∷ gs) = ((h : Group) → In h gs → before g h ≡ true) × Strict gs
 
--- A valid row in standard numbering: "stored and reported rows have this form".
+-- A valid row in standard numbering, as rows in a study and in a report are (RULES 4.4).
 pub record Standard (n : ℕ) (r : List ℕ) : Type 0 where
   pub valid : Valid n r
   pub strict : Strict (inner n r)
@@ -44,12 +44,12 @@ isAccepted accepted = true
 isAccepted (refused k p) = false
 isAccepted (counted a b c) = false
 
--- each group before the next
+-- each group before the next (RULES 4.1)
 unfoldable pub inOrder : List Group → Bool
 inOrder [] = true
 inOrder (g ∷ []) = true
 inOrder (g ∷ h ∷ gs) = before g h && inOrder (h ∷ gs)
 
--- Standard, as a test (`standard-to`, `standard-from`).
+-- Standard, as a test (RULES 4.4, `standard-to`, `standard-from`).
 unfoldable pub standard : ℕ → List ℕ → Bool
 standard n r = isAccepted (judged n r) && inOrder (inner n r)

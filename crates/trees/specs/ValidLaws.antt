@@ -93,7 +93,7 @@ module _ (n : ℕ) (r : List ℕ) where
   unfolding judged
   valid-judged ok = passed-chain (judgeChecks n r) accepted (valid-passed ok)
 
-  -- the calls that have checked n and the length ask the rest alone
+  -- a valid row passes checks 5 to 10, and what comes after them decides
   pub valid-row : Valid n r → (v : Verdict) → rowChecks n r ⊳ v ≡ v
   unfolding judgeChecks
   valid-row ok v = passed-chain (rowChecks n r) v (valid-passed ok .1 .1)
@@ -104,7 +104,7 @@ module _ (n : ℕ) (r : List ℕ) where
   unfolding judged
   judged-exactly = refused-exactly (judgeChecks n r) accepted accepted-other
 
-  -- where 9 is given, check 9 applies and check 6 passes
+  -- where judging refuses with 9, check 9 applies and check 6 passes
   given9 : (p : ℕ) → judged n r ≡ refused 9 p → (check6 n r .fault ≡ nowhere) × (check9 n r .fault ≡ at p)
   unfolding judged judgeChecks rowChecks lacks
   given9 p e =
@@ -112,7 +112,7 @@ module _ (n : ℕ) (r : List ℕ) where
           (chain-given (judgeChecks n r) accepted 9 p (accepted-other 9 p) e) in
       (t .0 .1 .1 .1 .0, t .1)
 
-  -- ---- number 9: "never" is for any number of steps, and every node below the place does come to the root
+  -- ---- check 9: never means in no number of steps, and every node below the place does come to the root (RULES 7.5)
 
   pub judged-never : (p : ℕ) → judged n r ≡ refused 9 p → ((f : ℕ) → ends f r p ≡ false) × ((u : ℕ) → u < p → ends (nodes r) r u ≡ true)
   judged-never p e = (
@@ -128,7 +128,7 @@ module _ (n : ℕ) (r : List ℕ) where
 
 -- ---- specimens that no computation shows
 
--- n = 2 has one tree
+-- two samples have one tree (RULES 10.2)
 pub only-two : (r : List ℕ) → judged 2 r ≡ accepted → r ≡ (3 ∷ 2 ∷ 2 ∷ rootMark ∷ [])
 unfolding nodes parent weigh tabulate
 only-two r e = words r (judged-valid 2 r e)
@@ -153,7 +153,7 @@ only-two r e = words r (judged-valid 2 r e)
         at-word (suc (suc (suc zero))) h = root (childOf q rootMark 2) refl
         at-word (suc (suc (suc (suc i)))) h = absurd (omega (arith, ok .words))
 
--- an m out of range is refused whatever the other words are
+-- an m out of range is refused whatever the other words are (RULES 10.4)
 pub nodes-refused : (n m : ℕ) (ws : List ℕ) → fewestSamples ≤ n → n ≤ mostSamples → length (m ∷ ws) ≡ rowWords n
     → outside (n + 1) (rowWords n - 1) m ≡ true → judged n (m ∷ ws) ≡ refused 5 0
 unfolding judged judgeChecks rowChecks _⊳_ nodes

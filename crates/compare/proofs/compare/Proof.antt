@@ -1,4 +1,4 @@
--- `compare::compare` passes a refusal of the first row on, moves the place of a refusal of the second, and counts else. Assumes nothing.
+-- `compare::compare` passes a refusal of the first row on, moves the place of a refusal of the second, and counts otherwise. Assumes nothing.
 use mathlib.Core.Path.{_≡_, sym, ap, _∙_}
 use native.Mathlib.Omega.{arith}
 use denote.Ref.{now}
@@ -21,7 +21,7 @@ passed1 c = sym (c .before .before .check-first .ensures) ∙ ap verdict (c .enu
 valid1 : (c : tie.After-enum-told) → let st = c .before .before .before .before .before in Valid (st .args .n) (now (st .args .first))
 valid1 c = let st = c .before .before .before .before .before in first-valid _ _ (now (st .args .second)) (passed1 c)
 
--- what the second row is answered
+-- what is answered for the second row
 passed2 : (c : tie.After-enum-told2) → let st = c .before .before .before .before .before .before .before .before in
     rowChecks (st .args .n) (now (st .args .second)) ⊳ accepted ≡ accepted
 passed2 c = sym (c .before .before .check-row .ensures) ∙ ap verdict (c .enum-told2 .given .1)

@@ -1,4 +1,4 @@
--- `file::file_bytes` works the bytes out without loss. Assumes nothing.
+-- `file::file_bytes` computes the bytes exactly. Assumes nothing.
 use native.Mathlib.Omega.{arith}
 use Rattle.file.specs.Files.{fileBytes}
 use Rattle.file.specs.FileLaws.{factor-below}

@@ -1,4 +1,4 @@
--- `file::file_of` tells a bad file from a good one. Assumes nothing.
+-- `file::file_of` answers that a file is bad, or else its n and k. Assumes nothing.
 use Prim.Native.Nat.{_≤_}
 use mathlib.Core.Path.{refl, sym, _∙_}
 use native.Mathlib.Omega.{arith}

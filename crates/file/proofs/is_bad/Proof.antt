@@ -1,4 +1,4 @@
--- `file::is_bad` answers refusal 15. Assumes nothing.
+-- `file::is_bad` answers whether the file is refused with 15. Assumes nothing.
 use Prim.Native.Nat.{_≤_}
 use mathlib.Core.Path.{refl, sym}
 use native.Mathlib.Omega.{arith}

@@ -9,7 +9,7 @@ use borrow.Author.Needs.{needs}
 use Rattle.judge.proofs.check_row.Statement.{statement}
 use Rattle.judge.proofs.check_row.Tie as tie
 
--- what is left behind the first k checks decides
+-- what is left after the first k checks decides
 abbrev Left : ℕ → tie.After-enum-told → Type 0
 Left k c =
     let start = c .before .before .before .before in

@@ -1,4 +1,4 @@
--- `judge::line` answers a line of the table whose place is 0. Assumes nothing.
+-- `judge::line` answers a check whose place is 0. Assumes nothing.
 use Rattle.judge.proofs.line.Statement.{statement}
 use Rattle.judge.proofs.line.Tie as tie
 

@@ -1,4 +1,4 @@
--- `judge::parent` reads the word behind word v. Assumes nothing.
+-- `judge::parent` reads the word after word v. Assumes nothing.
 use Rattle.trees.specs.Rows.{parent}
 use native.Mathlib.Numerals.{add-one}
 use borrow.Author.Needs.{needs}

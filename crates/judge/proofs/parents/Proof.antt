@@ -1,4 +1,4 @@
--- `judge::parents` answers check 6: the nodes passed are not astray, so those that are left decide. Assumes nothing.
+-- `judge::parents` answers check 6: the nodes passed have no wrong parent, so those that are left decide. Assumes nothing.
 use Prim.Native.Nat.{_-_}
 use mathlib.Core.Path.{refl, sym, _∙_}
 use native.Mathlib.Omega.{arith}

@@ -1,4 +1,4 @@
--- `report::report_given` gives the first of its checks that applies. Assumes nothing.
+-- `report::report_given` answers the first of its checks that applies. Assumes nothing.
 use denote.Ref.{now}
 use Rattle.report.proofs.CallLaws.{given-stops, given-goes}
 use borrow.Author.Needs.{needs}

@@ -1,4 +1,4 @@
--- `listing::lines::put_line` writes the line of its number, by the two cases of what is told. Assumes nothing.
+-- `listing::lines::put_line` writes the line of its number, by the two cases: a refusal, or a tree. Assumes nothing.
 use Prim.Native.Nat.{_≤_, _<_}
 use native.Mathlib.Omega.{arith}
 use lib.ListN.{length, length-take}

@@ -11,7 +11,7 @@ use borrow.Author.Needs.{needs}
 use Rattle.listing.proofs.told.tell.Statement.{statement}
 use Rattle.listing.proofs.told.tell.Tie as tie
 
--- rows over so many samples fit in their buffers
+-- there are few enough samples for the rows to fit in their buffers
 few : (c : tie.After-told) → c .told .given .0 .0 ≤ mostSamples
 few c =
     let p : tie.After-load = search needs in

@@ -1,4 +1,4 @@
--- `slots::slot_row` is the row that stands behind the identifier of the slot at word p. Assumes nothing.
+-- `slots::slot_row` is the row that stands after the identifier of the slot at word p. Assumes nothing.
 use Prim.Native.Nat.{_+_, _-_, _*_}
 use mathlib.Core.Path.{_≡_}
 use native.Mathlib.Omega.{arith}

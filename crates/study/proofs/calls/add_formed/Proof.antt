@@ -1,4 +1,4 @@
--- `study::calls::add_formed` meets its contract: what is given is checked, then the slots. Assumes nothing.
+-- `study::calls::add_formed` meets its contract: the identifier and the row are checked, then the slots. Assumes nothing.
 use Rattle.runs.specs.SlotLaws.{formed-long}
 use mathlib.Core.Path.{sym, ap, _∙_}
 use denote.Ref.{now}

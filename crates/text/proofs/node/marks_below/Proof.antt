@@ -1,4 +1,4 @@
--- `text::node::marks_below` marks v and each later node as its parent: the marks made so far are right. Assumes nothing.
+-- `text::node::marks_below` marks v and each later node whose parent is marked: the marks made so far are right. Assumes nothing.
 use Prim.Native.Nat.{_-_, _<_, _≤_}
 use mathlib.Core.Path.{_≡_, _∙_}
 use mathlib.Core.Bool.{false}
