@@ -110,17 +110,14 @@ counts-small n r q a b =
       omega (arith, shared-alone n q r, b .most),
     )
 
+compared-counts : (n : ℕ) (r q : List ℕ) → compared n r q ≡ accepted → ⊥
+unfolding compared
+compared-counts n r q e = let z : _≡_ {A = ℕ} 0 1 = cc in omega arith
+
 pub comparing-unpacked : (n : ℕ) (r q : List ℕ) → unpackedCounts (packed (comparing n r q)) ≡ comparing n r q
 unfolding comparing every
-comparing-unpacked n r q = unpacked-counted (comparing n r q) (chain-small cs v (ap (every fits) (comparing-numbers n r q)) (comparing-placed n r q) small)
-    (chain-holds (λ x. x ≡ accepted → ⊥) cs v (λ k p g e. let z : _≡_ {A = ℕ} 0 1 = cc in omega arith)
-    (λ h e. let z : _≡_ {A = ℕ} 0 1 = cc in omega arith))
-  where
-    cs : List Check
-    cs = compareChecks n r q
-
-    v : Verdict
-    v = compared n r q
-
-    small : Passed cs → Small v
-    small h = let t = comparing-accepts n r q .0 (passed-chain cs v h) in counts-small n r q (t .0) (t .1)
+comparing-unpacked n r q = unpacked-counted (compareChecks n r q ⊳ compared n r q)
+    (chain-small (compareChecks n r q) (compared n r q) (ap (every fits) (comparing-numbers n r q)) (comparing-placed n r q)
+    (λ h. let t = comparing-accepts n r q .0 (passed-chain (compareChecks n r q) (compared n r q) h) in counts-small n r q (t .0) (t .1)))
+    (chain-holds (λ x. x ≡ accepted → ⊥) (compareChecks n r q) (compared n r q) (λ k p g e. let z : _≡_ {A = ℕ} 0 1 = cc in omega arith)
+    (λ h. compared-counts n r q))
