@@ -1,4 +1,6 @@
 pub mod Determined
+pub mod Made
+pub mod MadeLaws
 pub mod Demand3
 pub mod Packing
 pub mod PackingLaws

@@ -9,7 +9,7 @@ use native.Mathlib.Omega.{arith}
 use lib.Dec.{eqb}
 use lib.ListN.{length}
 use borrow.Author.Tests.{eqb-true, ne-eqb, le-leb}
-use Rattle.trees.specs.Checks.{accepted}
+use Rattle.trees.specs.Checks.{Verdict, accepted}
 use Rattle.trees.specs.Valid.{Valid, isAccepted}
 use Rattle.trees.specs.Numbering.{renumbered}
 use Rattle.trees.specs.Reporting.{Run}
@@ -20,7 +20,7 @@ use Rattle.runs.specs.Runs.{every, find, insertRun}
 use Rattle.runs.specs.Words.{samples, inForce, runs, mostIdentifier, capacity}
 use Rattle.runs.specs.Formed.{Rising}
 use Rattle.runs.specs.Calls.{opened, added, stores}
-use Rattle.runs.specs.Histories.{Call, add, withdraw, identified, after, answers, studyAfter, lastAccepted, leaves, StandsFor}
+use Rattle.runs.specs.Histories.{Call, add, withdraw, identified, after, answers, studyAfter, studyAnswers, lastAccepted, leaves, StandsFor}
 use Rattle.runs.specs.Histories.{Distinct, Anew, adds, Renewed, Shuffled, done, keep, swap, both}
 use Rattle.runs.specs.RunLaws.{Absent, cond-swap, find-below, find-here, find-past, absent-head, absent-tail, absent-member}
 use Rattle.runs.specs.RunLaws.{find-named, find-member, find-above, rising-unique, find-insert, insert-rising, length-insert}
@@ -170,7 +170,8 @@ stands-valid n r (some (withdraw j)) s = absurd s
 stands-valid n r none s = absurd s
 
 -- a history, and the runs for a fresh study
-module _ (n : ℕ) (w : List ℕ) (h : List Call) (given : List Run) (o : opened n w .verdict ≡ accepted) (e : identified h ≡ true) (anew : Anew n w h given) where
+module _ (n : ℕ) (w : List ℕ) (h : List Call) (given : List Run) (o : opened n w .verdict ≡ accepted) (e : identified h ≡ true)
+    (anew : Anew n h (studyAnswers n w h) given) where
   abbrev old : List Run
   old = runs (studyAfter n w h)
 
@@ -184,12 +185,12 @@ module _ (n : ℕ) (w : List ℕ) (h : List Call) (given : List Run) (o : opened
   given-found : (i : ℕ) → orOld n (find i given) none ≡ find i old
   given-found i =
       let q = study-find n w h o e i in
-      stands-stored n i (find i given) (lastAccepted n w h i) (find-named i given) (λ r p. find-named i old r (q ∙ p)) (anew .each i) ∙ sym q
+      stands-stored n i (find i given) (lastAccepted h (studyAnswers n w h) i) (find-named i given) (λ r p. find-named i old r (q ∙ p)) (anew .each i) ∙ sym q
 
   given-fit : (r : Run) → List·Memᴰ r given → Fit n r
   given-fit r m =
       let i : ℕ = r .identifier in
-      let c : Option Call = lastAccepted n w h i in
+      let c : Option Call = lastAccepted h (studyAnswers n w h) i in
       let f : find i given ≡ some r = distinct-find given r (anew .once) m in
       let g : find i old ≡ some (restored n r) = sym (given-found i) ∙ ap (λ (x : Option Run). orOld n x none) f in
       record {
@@ -257,18 +258,6 @@ module _ (n : ℕ) (w : List ℕ) (h : List Call) (given : List Run) (o : opened
               (k .size ∙ l ∙ sym (kept .size)) (k .same ∙ sym (kept .same)) same-runs;
         }
 
--- DEMAND 3, LATER
-module _ (n : ℕ) (w : List ℕ) (h : List Call) (fresh : List ℕ) (given : List Run) (r : Renewed n w h fresh given) where
-  -- every later add and withdrawal answers alike on both, and leaves equal words
-  pub demand-3-later : (later : List Call)
-      → (answers (studyAfter n fresh (adds given)) later ≡ answers (studyAfter n w h) later)
-      × (after (studyAfter n fresh (adds given)) later ≡ after (studyAfter n w h) later)
-  demand-3-later later = (ap (λ (v : List ℕ). answers v later) (r .words), ap (λ (v : List ℕ). after v later) (r .words))
-
-  -- so does any call that reads the words, reporting among them
-  pub demand-3-any : {A : Type 0} (call : List ℕ → A) → call (studyAfter n fresh (adds given)) ≡ call (studyAfter n w h)
-  demand-3-any call = ap call (r .words)
-
 -- ---- in any order
 
 -- in another order the identifiers are different too, and the same runs are found
@@ -284,18 +273,19 @@ shuffled-find (swap r s rs) d =
 shuffled-find (both p q) d = let t = shuffled-find p d in let u = shuffled-find q (t .0) in (u .0, λ i. u .1 i ∙ t .1 i)
 
 -- the runs for a fresh study may be added in every order
-pub shuffled-anew : (n : ℕ) (w : List ℕ) (h : List Call) (given other : List Run) → Anew n w h given → Shuffled given other → Anew n w h other
-shuffled-anew n w h given other a p = let t = shuffled-find p (a .once) in record { once = t .0; each = λ i. rw (t .1 i) (a .each i) }
+pub shuffled-anew : (n : ℕ) (h : List Call) (vs : List Verdict) (given other : List Run) → Anew n h vs given → Shuffled given other → Anew n h vs other
+shuffled-anew n h vs given other a p = let t = shuffled-find p (a .once) in record { once = t .0; each = λ i. rw (t .1 i) (a .each i) }
 
 rising-distinct : (b : ℕ) (rs : List Run) → Rising b rs → Distinct rs
 rising-distinct b [] h = tt
 rising-distinct b (r ∷ rs) h = (find-below (r .identifier) (r .identifier) rs (h .1) (omega arith), rising-distinct (r .identifier) rs (h .1))
 
 -- the runs in force, as they are stored, may be added to a fresh study
-pub stored-anew : (n : ℕ) (w : List ℕ) (h : List Call) → opened n w .verdict ≡ accepted → identified h ≡ true → Anew n w h (runs (studyAfter n w h))
+pub stored-anew : (n : ℕ) (w : List ℕ) (h : List Call) → opened n w .verdict ≡ accepted → identified h ≡ true
+    → Anew n h (studyAnswers n w h) (runs (studyAfter n w h))
 stored-anew n w h o e = record {
   once = rising-distinct 0 (runs (studyAfter n w h)) (study-kept n w h o e .formed .rises);
-  each = λ i. rw (study-find n w h o e i) (go (lastAccepted n w h i) (study-proper n w h o e i));
+  each = λ i. rw (study-find n w h o e i) (go (lastAccepted h (studyAnswers n w h) i) (study-proper n w h o e i));
 }
   where
     go : (c : Option Call) → Proper n c → StandsFor n (leaves n c) c

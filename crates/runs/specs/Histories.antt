@@ -3,7 +3,7 @@ use Prim.Native.Nat.{ℕ}
 use mathlib.Core.Path.{_≡_}
 use mathlib.Core.List.{List, [], _∷_, map}
 use mathlib.Core.Option.{Option, some, none}
-use mathlib.Core.Bool.{Bool, true, false, _&&_, cond}
+use mathlib.Core.Bool.{Bool, true, false, _&&_, not, cond}
 use lib.Dec.{eqb, leb}
 use Rattle.trees.specs.Groups.{Group, member}
 use Rattle.trees.specs.Rows.{groups}
@@ -44,18 +44,26 @@ unfoldable pub answers : List ℕ → List Call → List Verdict
 answers w [] = []
 answers w (c ∷ h) = called w c .verdict ∷ answers (called w c .words) h
 
--- the last accepted call that names identifier i: `sofar` where the history has none
-unfoldable pub lastFrom : ℕ → Option Call → List ℕ → List Call → Option Call
-lastFrom i sofar w [] = sofar
-lastFrom i sofar w (c ∷ h) = lastFrom i (cond (eqb i (names c) && isAccepted (called w c .verdict)) (some c) sofar) (called w c .words) h
+-- whether each of these answers is a refusal
+abbrev pub allRefused : List Verdict → Bool
+allRefused vs = every (λ v. not (isAccepted v)) vs
 
--- the words of a buffer that is opened for n samples, after a history
+-- the words of a buffer that is opened for n samples, after a history, and what its calls are answered
 abbrev pub studyAfter : ℕ → List ℕ → List Call → List ℕ
 studyAfter n w h = after (opened n w .words) h
 
--- in such a history, the last accepted call that names identifier i
-abbrev pub lastAccepted : ℕ → List ℕ → List Call → ℕ → Option Call
-lastAccepted n w h i = lastFrom i none (opened n w .words) h
+abbrev pub studyAnswers : ℕ → List ℕ → List Call → List Verdict
+studyAnswers n w h = answers (opened n w .words) h
+
+-- of calls and the answers that they were given, the last accepted call that names identifier i: `sofar` where there is none
+unfoldable pub lastFrom : ℕ → Option Call → List Call → List Verdict → Option Call
+lastFrom i sofar [] vs = sofar
+lastFrom i sofar (c ∷ h) [] = sofar
+lastFrom i sofar (c ∷ h) (v ∷ vs) = lastFrom i (cond (eqb i (names c) && isAccepted v) (some c) sofar) h vs
+
+-- of a history and the answers that it was given, the last accepted call that names identifier i
+abbrev pub lastAccepted : List Call → List Verdict → ℕ → Option Call
+lastAccepted h vs i = lastFrom i none h vs
 
 -- whether there is one and it is an add
 abbrev pub isAdd : Option Call → Bool
@@ -90,10 +98,11 @@ abbrev pub Distinct : List Run → Type 0
 Distinct [] = Unit {0}
 Distinct (r ∷ rs) = (find (r .identifier) rs ≡ none) × Distinct rs
 
--- These runs are those in force after a history, in any order, each as any row with the groups of its last accepted add (RULES D3).
-pub record Anew (n : ℕ) (w : List ℕ) (h : List Call) (given : List Run) : Type 0 where
+-- These runs are those in force after a history with these answers, in any order, each as any row with the groups of its last accepted add
+-- (RULES D3).
+pub record Anew (n : ℕ) (h : List Call) (vs : List Verdict) (given : List Run) : Type 0 where
   pub once : Distinct given
-  pub each : (i : ℕ) → StandsFor n (find i given) (lastAccepted n w h i)
+  pub each : (i : ℕ) → StandsFor n (find i given) (lastAccepted h vs i)
 
 -- runs as the adds that put them in
 abbrev pub adds : List Run → List Call
@@ -102,7 +111,7 @@ adds given = map (λ run. add (run .identifier) (run .row)) given
 -- What demand 3 promises of a history: a fresh buffer is opened, takes each of these runs, and then has the same words (RULES D3).
 pub record Renewed (n : ℕ) (w : List ℕ) (h : List Call) (fresh : List ℕ) (given : List Run) : Type 0 where
   pub opens : opened n fresh .verdict ≡ accepted
-  pub takes : every isAccepted (answers (opened n fresh .words) (adds given)) ≡ true
+  pub takes : every isAccepted (studyAnswers n fresh (adds given)) ≡ true
   pub words : studyAfter n fresh (adds given) ≡ studyAfter n w h
 
 -- the same runs in another order

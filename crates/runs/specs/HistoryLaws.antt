@@ -17,7 +17,8 @@ use Rattle.trees.specs.NumberingLaws.{renumbered-groups}
 use Rattle.runs.specs.Runs.{every, find, isSome, present}
 use Rattle.runs.specs.Words.{runs, encode, mostIdentifier}
 use Rattle.runs.specs.Calls.{opened, added, withdrawn, stores}
-use Rattle.runs.specs.Histories.{Call, add, withdraw, names, identified, called, after, lastFrom, studyAfter, lastAccepted, isAdd, leaves, SameGroups}
+use Rattle.runs.specs.Histories.{Call, add, withdraw, names, identified, called, after, answers, lastFrom}
+use Rattle.runs.specs.Histories.{studyAfter, studyAnswers, lastAccepted, isAdd, leaves, SameGroups}
 use Rattle.runs.specs.RunLaws.{find-named}
 use Rattle.runs.specs.CallLaws.{Kept, kept-on, opened-kept, opened-none}
 use Rattle.runs.specs.AddLaws.{added-accepts, added-kept, added-find}
@@ -29,17 +30,17 @@ use Rattle.runs.specs.WithdrawLaws.{withdrawn-accepts, withdrawn-kept, w
 abbrev pub Word : Call → Type 0
 Word c = names c ≤ mostIdentifier
 
-refused-words : (w : List ℕ) (c : Call) → isAccepted (called w c .verdict) ≡ false → called w c .words ≡ w
+-- a refused call leaves the words as they were
+pub refused-words : (w : List ℕ) (c : Call) → isAccepted (called w c .verdict) ≡ false → called w c .words ≡ w
 unfolding added withdrawn
 refused-words w (add i row) e = rw e
 refused-words w (withdraw i) e = rw e
 
 -- a refused call is never the last accepted one: it counts as if it had not been made
 pub last-refused : (i : ℕ) (sofar : Option Call) (w : List ℕ) (c : Call) (h : List Call) → isAccepted (called w c .verdict) ≡ false
-    → lastFrom i sofar w (c ∷ h) ≡ lastFrom i sofar w h
-unfolding lastFrom
-last-refused i sofar w c h e =
-    ap (λ (b : Bool). lastFrom i (cond (eqb i (names c) && b) (some c) sofar) (called w c .words) h) e ∙ (rw (and-false, refused-words w c e))
+    → lastFrom i sofar (c ∷ h) (answers w (c ∷ h)) ≡ lastFrom i sofar h (answers w h)
+unfolding lastFrom answers
+last-refused i sofar w c h e = simp (e, and-false, refused-words w c e)
 
 module _ (len n : ℕ) (w : List ℕ) (k : Kept len n w) where
   accepted-kept : (c : Call) → Word c → called w c .verdict ≡ accepted → Kept len n (called w c .words)
@@ -88,8 +89,8 @@ leaves-cond n true c sofar = refl
 leaves-cond n false c sofar = refl
 
 after-find : (len n i : ℕ) (sofar : Option Call) (w : List ℕ) (h : List Call) → Kept len n w → identified h ≡ true
-    → find i (runs w) ≡ leaves n sofar → find i (runs (after w h)) ≡ leaves n (lastFrom i sofar w h)
-unfolding after lastFrom
+    → find i (runs w) ≡ leaves n sofar → find i (runs (after w h)) ≡ leaves n (lastFrom i sofar h (answers w h))
+unfolding after answers lastFrom
 after-find len n i sofar w [] k e f = f
 after-find len n i sofar w (c ∷ h) k e f =
     let t : Bool = eqb i (names c) && isAccepted (called w c .verdict) in
@@ -104,8 +105,8 @@ Proper n (some (add i row)) = Valid n row
 Proper n (some (withdraw i)) = Unit {0}
 
 after-proper : (len n i : ℕ) (sofar : Option Call) (w : List ℕ) (h : List Call) → Kept len n w → identified h ≡ true
-    → Proper n sofar → Proper n (lastFrom i sofar w h)
-unfolding lastFrom
+    → Proper n sofar → Proper n (lastFrom i sofar h (answers w h))
+unfolding answers lastFrom
 after-proper len n i sofar w [] k e p = p
 after-proper len n i sofar w (c ∷ h) k e p =
     let t : Bool = eqb i (names c) && isAccepted (called w c .verdict) in
@@ -132,24 +133,24 @@ module _ (n : ℕ) (w : List ℕ) (h : List Call) (o : opened n w .verdict ≡ a
   study-words = let k = study-kept in k .formed .exact ∙ (rw (k .size, k .same))
 
   -- DEMAND 3, IN FORCE: under an identifier stands what its last accepted call left: the add's row, renumbered, or nothing
-  pub study-find : (i : ℕ) → find i (runs (studyAfter n w h)) ≡ leaves n (lastAccepted n w h i)
+  pub study-find : (i : ℕ) → find i (runs (studyAfter n w h)) ≡ leaves n (lastAccepted h (studyAnswers n w h) i)
   unfolding find
   study-find i = after-find (length w) n i none (opened n w .words) h (opened-kept n w o) e (ap (find i) (opened-none n w o))
 
   -- an identifier is in force exactly if its last accepted call was an add
-  pub study-present : (i : ℕ) → present i (runs (studyAfter n w h)) ≡ isAdd (lastAccepted n w h i)
-  study-present i = ap isSome (study-find i) ∙ go (lastAccepted n w h i)
+  pub study-present : (i : ℕ) → present i (runs (studyAfter n w h)) ≡ isAdd (lastAccepted h (studyAnswers n w h) i)
+  study-present i = ap isSome (study-find i) ∙ go (lastAccepted h (studyAnswers n w h) i)
     where
       go : (c : Option Call) → isSome (leaves n c) ≡ isAdd c
       go none = refl
       go (some (add j row)) = refl
       go (some (withdraw j)) = refl
 
-  pub study-proper : (i : ℕ) → Proper n (lastAccepted n w h i)
+  pub study-proper : (i : ℕ) → Proper n (lastAccepted h (studyAnswers n w h) i)
   study-proper i = after-proper (length w) n i none (opened n w .words) h (opened-kept n w o) e tt
 
   -- the run in force has exactly the groups of its last accepted add
-  pub study-groups : (i j : ℕ) (row : List ℕ) → lastAccepted n w h i ≡ some (add j row)
+  pub study-groups : (i j : ℕ) (row : List ℕ) → lastAccepted h (studyAnswers n w h) i ≡ some (add j row)
       → (find i (runs (studyAfter n w h)) ≡ some (stores n i row)) × SameGroups n (renumbered n row) row
   study-groups i j row q =
       let f : find i (runs (studyAfter n w h)) ≡ some (stores n j row) = study-find i ∙ ap (leaves n) q in

@@ -13,6 +13,8 @@ pub mod AddLaws
 pub mod WithdrawLaws
 pub mod HistoryLaws
 pub mod FreshLaws
+pub mod RoomLaws
+pub mod StoredLaws
 pub mod MoveLaws
 pub mod Reports
 pub mod ReportLaws
