@@ -1,56 +1,173 @@
--- Each starred specimen of document 01 holds of the definitions. Assumes nothing.
-use mathlib.Core.Path.{refl}
+-- Each specimen of the table holds of the calls' own definitions (RULES 10). Assumes nothing.
+use Prim.Native.Nat.{ℕ, _≤_, _<_}
+use mathlib.Core.Path.{_≡_, refl, sym, ap, _∙_}
+use mathlib.Core.List.{List, [], _∷_, List·Memᴰ, List·Memᴰ·head, List·Memᴰ·tail}
+use mathlib.Core.Bool.{Bool, true, _&&_, cond}
 use native.Mathlib.Omega.{arith}
+use lib.Dec.{leb}
+use lib.ListN.{length}
+use borrow.Author.Tests.{leb-true}
 use Rattle.trees.specs.Lists.{tabulate, filter, first, weigh}
 use Rattle.trees.specs.Groups.{size, lowest, same, listFirst, before, member}
 use Rattle.trees.specs.Rows.{nodes, parent, meets, ends, groupAt, groups}
-use Rattle.trees.specs.Checks.{_⊳_, rowChecks, judgeChecks, judged}
+use Rattle.trees.specs.Checks.{Verdict, accepted, refused, _⊳_, rowWords, outside, rowChecks, judgeChecks, judged}
+use Rattle.trees.specs.Valid.{Valid, isAccepted}
 use Rattle.trees.specs.Numbering.{enter, ordered, groupSet, lastWith, parents, rowOf, renumbered}
 use Rattle.trees.specs.Comparing.{compared}
-use Rattle.trees.specs.Reporting.{support, total, held, shown, agreed, supports}
-use Rattle.trees.specs.ValidLaws.{only-two, nodes-refused}
-use Rattle.arb.specs.Specimens.{AllSay, specimens}
+use Rattle.trees.specs.Outcomes.{Outcome}
+use Rattle.trees.specs.RowCalls.{renumberChecks, renumbering, compareChecks, comparing}
+use Rattle.trees.specs.Reporting.{Run, majority, support, total, held, shown, agreed, supports}
+use Rattle.trees.specs.BoolLaws.{and-l, and-r}
+use Rattle.trees.specs.ValidLaws.{accepted-to, judged-valid, only-two, nodes-refused}
+use Rattle.trees.specs.RowCallLaws.{renumbering-accepts}
+use Rattle.runs.specs.Runs.{every, find, insertRun}
+use Rattle.runs.specs.Words.{samples, inForce, runs, slots, encode, capacity, mostIdentifier}
+use Rattle.runs.specs.Calls.{opened}
+use Rattle.runs.specs.Histories.{Distinct, identified, adds, studyAfter}
+use Rattle.runs.specs.Reports.{Report, reportChecks, reported}
+use Rattle.runs.specs.CallLaws.{Opens, opened-accepts}
+use Rattle.runs.specs.HistoryLaws.{study-kept}
+use Rattle.runs.specs.FreshLaws.{Fit, gathered, filled-takes, filled-words}
+use Rattle.runs.specs.ReportLaws.{reported-accepts}
+use Rattle.trees.specs.Case.{row1, row2, row3, agreedRow, supportRow}
+use Rattle.arb.specs.Specimens.{Says, renumbers, nodesGive, Reports, leaves, shows, AllSay, nothing, _and_, run, row01, row02, threeRuns, twoRuns, specimens}
+
+-- ---- renumbering
+
+-- a row that judging accepts is renumbered, whatever the output held
+renumbers-so : (n : ℕ) (r q out : List ℕ) → judged n r ≡ accepted → renumbered n r ≡ q → length out ≡ rowWords n → renumbering n r out ≡ leaves q
+unfolding renumbering
+renumbers-so n r q out ok e l = ap left (renumbering-accepts n r out .1 (judged-valid n r ok, l)) ∙ ap leaves e
+  where
+    left : Verdict → Outcome
+    left v = record { verdict = v; words = cond (isAccepted v) (renumbered n r) out }
+
+-- ---- reporting on runs that were added
+
+-- whether a run may be added: its identifier is a word other than 0, and judging accepts its row
+abbrev fits : ℕ → Run → Bool
+fits n run = leb 1 (run .identifier) && leb (run .identifier) mostIdentifier && isAccepted (judged n (run .row))
+
+each-fits : (n : ℕ) (rs : List Run) → every (fits n) rs ≡ true → (r : Run) → List·Memᴰ r rs → Fit n r
+unfolding every
+each-fits n (x ∷ rs) e r (List·Memᴰ·head q) = rw q (one (and-l (fits n x) (every (fits n) rs) e))
+  where
+    one : fits n x ≡ true → Fit n x
+    one f =
+        let g = and-l (leb 1 (x .identifier) && leb (x .identifier) mostIdentifier) (isAccepted (judged n (x .row))) f in
+        record {
+          valid = judged-valid n (x .row) (accepted-to _ (and-r (leb 1 (x .identifier) && leb (x .identifier) mostIdentifier) _ f));
+          named = leb-true 1 (x .identifier) (and-l _ (leb (x .identifier) mostIdentifier) g);
+          word = leb-true (x .identifier) mostIdentifier (and-r (leb 1 (x .identifier)) _ g);
+        }
+each-fits n (x ∷ rs) e r (List·Memᴰ·tail m) = each-fits n rs (and-r (fits n x) (every (fits n) rs) e) r m
+
+-- what is left to compute: the study's words, and the two rows of the runs in them
+record Computes (n : ℕ) (rs : List Run) (words a s : List ℕ) : Type 0 where
+  opens : (w : List ℕ) → length w ≡ length words → Opens n w
+  once : Distinct rs
+  fit : every (fits n) rs ≡ true
+  named : identified (adds rs) ≡ true
+  room : length rs ≤ capacity (length words) n
+  stores : encode (length words) n (gathered n rs) ≡ words
+  over : samples words ≡ n
+  some : 0 < inForce words
+  row : agreed majority (samples words) (runs words) ≡ a
+  counts : supports majority (samples words) (runs words) ≡ s
+
+reports-so : (n : ℕ) (rs : List Run) (words a s : List ℕ) → Computes n rs words a s
+    → (w x y : List ℕ) → length w ≡ length words → length x ≡ rowWords n → length y ≡ rowWords n → Reports n rs words a s w x y
+unfolding reported
+reports-so n rs words a s c w x y l d e = record { opens = opens; takes = filled-takes n w rs opens (c .once) fit few; stores = same; report = shown }
+  where
+    opens : opened n w .verdict ≡ accepted
+    opens = opened-accepts n w .1 (c .opens w l)
+
+    fit : (r : Run) → List·Memᴰ r rs → Fit n r
+    fit = each-fits n rs (c .fit)
+
+    few : length rs ≤ capacity (length w) n
+    few = rw l (c .room)
+
+    same : studyAfter n w (adds rs) ≡ words
+    same = filled-words n w rs opens (c .once) fit few ∙ (rw l (c .stores))
+
+    left : Verdict → Report
+    left v = record {
+      verdict = v;
+      agreedRow = cond (isAccepted v) (agreed majority (samples words) (runs words)) x;
+      supportRow = cond (isAccepted v) (supports majority (samples words) (runs words)) y;
+    }
+
+    shown : reported majority words x y ≡ shows a s
+    shown = ap left (reported-accepts majority words x y .1 record {
+      formed = rw same at (study-kept n w (adds rs) opens (c .named) .formed);
+      agreedWords = rw (c .over) d;
+      supportWords = rw (c .over) e;
+      some = c .some;
+    }) ∙ rw (c .row, c .counts) refl
+
+-- ---- the table
+
+three-runs : Computes 5 (run 1 row1 ∷ run 2 row2 ∷ run 3 row3 ∷ []) threeRuns agreedRow supportRow
+unfolding tabulate filter first weigh size lowest same listFirst before member nodes parent meets ends groupAt groups _⊳_ rowChecks judgeChecks judged
+    enter ordered groupSet lastWith parents rowOf renumbered support total held shown agreed supports every find insertRun gathered slots encode runs capacity
+three-runs = record {
+  opens = λ w l. record { least = omega arith; most = omega arith; one = rw l (omega arith) };
+  once = (refl, (refl, (refl, tt)));
+  fit = refl;
+  named = refl;
+  room = omega arith;
+  stores = refl;
+  over = refl;
+  some = omega arith;
+  row = refl;
+  counts = refl;
+}
+
+two-runs : Computes 3 (run 1 row01 ∷ run 2 row02 ∷ []) twoRuns (4 ∷ 3 ∷ 3 ∷ 3 ∷ 65535 ∷ 0 ∷ []) (2 ∷ 2 ∷ 2 ∷ 2 ∷ 2 ∷ 0 ∷ [])
+unfolding tabulate filter first weigh size lowest same listFirst before member nodes parent meets ends groupAt groups _⊳_ rowChecks judgeChecks judged
+    enter ordered groupSet lastWith parents rowOf renumbered support total held shown agreed supports every find insertRun gathered slots encode runs capacity
+two-runs = record {
+  opens = λ w l. record { least = omega arith; most = omega arith; one = rw l (omega arith) };
+  once = (refl, (refl, tt));
+  fit = refl;
+  named = refl;
+  room = omega arith;
+  stores = refl;
+  over = refl;
+  some = omega arith;
+  row = refl;
+  counts = refl;
+}
+
+one-tree : Says (renumbers 3 (5 ∷ 3 ∷ 3 ∷ 4 ∷ 4 ∷ 65535 ∷ []) row01)
+unfolding tabulate filter first weigh size lowest same listFirst before member nodes parent meets ends groupAt groups _⊳_ rowChecks judgeChecks judged
+    enter ordered groupSet lastWith parents rowOf renumbered
+one-tree out = renumbers-so 3 (5 ∷ 3 ∷ 3 ∷ 4 ∷ 4 ∷ 65535 ∷ []) row01 out refl refl
+
+first-word : (m : ℕ) → outside 4 5 m ≡ true → Says (nodesGive 3 m (refused 5 0))
+first-word m e ws l = nodes-refused 3 m ws (omega arith) (omega arith) l e
 
 pub specimens-hold : AllSay specimens
 unfolding tabulate filter first weigh size lowest same listFirst before member nodes parent meets ends groupAt groups
-    _⊳_ rowChecks judgeChecks judged enter ordered groupSet lastWith parents rowOf renumbered compared support total held shown agreed supports
-specimens-hold = (
-  refl,
-  (
-    only-two,
-    (
-      refl,
-      (
-        refl,
-        (
-          refl,
-          (
-            refl,
-            (
-              refl,
-              (
-                refl,
-                (
-                  refl,
-                  (
-                    refl,
-                    (
-                      refl,
-                      (
-                        λ ws l. nodes-refused 3 3 ws (omega arith) (omega arith) l refl,
-                        (
-                          λ ws l. nodes-refused 3 6 ws (omega arith) (omega arith) l refl,
-                          ((refl, refl), ((refl, refl), (refl, tt))),
-                        ),
-                      ),
-                    ),
-                  ),
-                ),
-              ),
-            ),
-          ),
-        ),
-      ),
-    ),
-  ),
-)
+    _⊳_ rowChecks judgeChecks judged enter ordered groupSet lastWith parents rowOf renumbered compared compareChecks comparing
+specimens-hold =
+    reports-so 5 _ _ _ _ three-runs
+    and refl
+    and only-two
+    and refl
+    and refl
+    and one-tree
+    and refl
+    and refl
+    and refl
+    and refl
+    and refl
+    and refl
+    and first-word 3 refl
+    and first-word 6 refl
+    and reports-so 3 _ _ _ _ two-runs
+    and refl
+    and refl
+    and nothing

@@ -1,7 +1,7 @@
 -- The specimens that are proved (RULES 10.1 to 10.6): one table, and what each of its rows says of the calls.
 use Prim.Native.Nat.{ℕ}
 use mathlib.Core.Path.{_≡_}
-use mathlib.Core.List.{List, [], _∷_}
+use mathlib.Core.List.{List, [], _∷_, _++_}
 use mathlib.Core.Bool.{true}
 use lib.ListN.{length}
 use Rattle.trees.specs.Checks.{Verdict, accepted, refused, counted, rowWords, judged}
@@ -56,6 +56,20 @@ pub data AllSay : List Specimen → Type 0 where
 abbrev pub run : ℕ → List ℕ → Run
 run i r = record { identifier = i; row = r }
 
+-- three samples, with the group {0,1}, and with the group {0,2}
+abbrev pub row01 : List ℕ
+row01 = 5 ∷ 4 ∷ 4 ∷ 3 ∷ 65535 ∷ 3 ∷ []
+
+abbrev pub row02 : List ℕ
+row02 = 5 ∷ 4 ∷ 3 ∷ 4 ∷ 65535 ∷ 3 ∷ []
+
+-- a study over five samples with the three runs, and one over three samples with two: the header, then a slot for each (RULES 6.1 to 6.3)
+abbrev pub threeRuns : List ℕ
+threeRuns = (65 ∷ 82 ∷ 66 ∷ 1 ∷ 5 ∷ 3 ∷ 0 ∷ 0 ∷ []) ++ (1 ∷ row1) ++ (2 ∷ row2) ++ (3 ∷ row3)
+
+abbrev pub twoRuns : List ℕ
+twoRuns = (65 ∷ 82 ∷ 66 ∷ 1 ∷ 3 ∷ 2 ∷ 0 ∷ 0 ∷ []) ++ (1 ∷ row01) ++ (2 ∷ row02)
+
 abbrev pub specimens : List Specimen
 specimens =
     -- the three runs (RULES 10.1): the study's 41 words, the agreed row, the support row
@@ -64,9 +78,9 @@ specimens =
     ∷ judges 2 (3 ∷ 2 ∷ 2 ∷ 65535 ∷ []) accepted
     ∷ onlyTree 2 (3 ∷ 2 ∷ 2 ∷ 65535 ∷ [])
     -- one tree in two numberings (RULES 10.3)
-    ∷ judges 3 (5 ∷ 4 ∷ 4 ∷ 3 ∷ 65535 ∷ 3 ∷ []) accepted
+    ∷ judges 3 row01 accepted
     ∷ judges 3 (5 ∷ 3 ∷ 3 ∷ 4 ∷ 4 ∷ 65535 ∷ []) accepted
-    ∷ renumbers 3 (5 ∷ 3 ∷ 3 ∷ 4 ∷ 4 ∷ 65535 ∷ []) (5 ∷ 4 ∷ 4 ∷ 3 ∷ 65535 ∷ 3 ∷ [])
+    ∷ renumbers 3 (5 ∷ 3 ∷ 3 ∷ 4 ∷ 4 ∷ 65535 ∷ []) row01
     -- rows over three samples, judged (RULES 10.4)
     ∷ judges 3 (4 ∷ 3 ∷ 3 ∷ 3 ∷ 65535 ∷ 7 ∷ []) (refused 8 5)
     ∷ judges 3 (4 ∷ 3 ∷ 3 ∷ 3 ∷ 65535 ∷ 0 ∷ []) accepted
@@ -77,8 +91,7 @@ specimens =
     ∷ nodesGive 3 3 (refused 5 0)
     ∷ nodesGive 3 6 (refused 5 0)
     -- two runs in conflict (RULES 10.5)
-    ∷ reports 3 (run 1 (5 ∷ 4 ∷ 4 ∷ 3 ∷ 65535 ∷ 3 ∷ []) ∷ run 2 (5 ∷ 4 ∷ 3 ∷ 4 ∷ 65535 ∷ 3 ∷ []) ∷ []) twoRuns
-        (4 ∷ 3 ∷ 3 ∷ 3 ∷ 65535 ∷ 0 ∷ []) (2 ∷ 2 ∷ 2 ∷ 2 ∷ 2 ∷ 0 ∷ [])
+    ∷ reports 3 (run 1 row01 ∷ run 2 row02 ∷ []) twoRuns (4 ∷ 3 ∷ 3 ∷ 3 ∷ 65535 ∷ 0 ∷ []) (2 ∷ 2 ∷ 2 ∷ 2 ∷ 2 ∷ 0 ∷ [])
     -- comparisons (RULES 10.6): of the second one the two sides differ
     ∷ compares 5 row1 row2 (counted 7 1 1)
     ∷ compares 5 row1 row3 (counted 7 1 2)

@@ -17,7 +17,7 @@ use Rattle.trees.specs.BoolLaws.{and-both, decide}
 use Rattle.trees.specs.ValidLaws.{judged-valid, valid-judged}
 use Rattle.trees.specs.NumberingLaws.{renumbered-standard, renumbered-groups, renumbered-same}
 use Rattle.runs.specs.Runs.{every, find, insertRun}
-use Rattle.runs.specs.Words.{samples, inForce, runs, mostIdentifier, capacity}
+use Rattle.runs.specs.Words.{samples, inForce, runs, encode, mostIdentifier, capacity}
 use Rattle.runs.specs.Formed.{Rising}
 use Rattle.runs.specs.Calls.{opened, added, stores}
 use Rattle.runs.specs.Histories.{Call, add, withdraw, identified, after, answers, studyAfter, studyAnswers, lastAccepted, leaves, StandsFor}
@@ -28,7 +28,7 @@ use Rattle.runs.specs.WordLaws.{length-runs}
 use Rattle.runs.specs.FormedLaws.{formed-unique}
 use Rattle.runs.specs.CallLaws.{Kept, kept-on, opened-accepts, opened-kept, opened-none}
 use Rattle.runs.specs.AddLaws.{Adds, added-accepts, added-kept, added-runs, added-find}
-use Rattle.runs.specs.HistoryLaws.{study-kept, study-find, Proper, study-proper}
+use Rattle.runs.specs.HistoryLaws.{study-kept, study-words, study-find, Proper, study-proper}
 
 -- ---- lists of runs that have different identifiers
 
@@ -38,7 +38,7 @@ distinct-find (x ∷ rs) r d (List·Memᴰ·tail m) =
     find-past (r .identifier) x rs (λ e. absent-member (x .identifier) rs r (d .0) m (sym e)) ∙ distinct-find rs r (d .1) m
 
 -- a run as it is stored
-abbrev restored : ℕ → Run → Run
+abbrev pub restored : ℕ → Run → Run
 restored n run = stores n (run .identifier) (run .row)
 
 -- what is found among new runs, as it is stored, or else what was there
@@ -47,7 +47,7 @@ orOld n (some r) o = some (restored n r)
 orOld n none o = o
 
 -- these runs, as they are stored, in rising order
-gathered : ℕ → List Run → List Run
+unfoldable pub gathered : ℕ → List Run → List Run
 gathered n [] = []
 gathered n (r ∷ rs) = insertRun (restored n r) (gathered n rs)
 
@@ -79,10 +79,10 @@ length-gathered n (r ∷ rs) = length-insert (restored n r) (gathered n rs) ∙ 
 -- ---- runs added to a study
 
 -- a run that adding takes, where it is not there yet and has room
-record Fit (n : ℕ) (run : Run) : Type 0 where
-  valid : Valid n (run .row)
-  named : 0 < run .identifier
-  word : run .identifier ≤ mostIdentifier
+pub record Fit (n : ℕ) (run : Run) : Type 0 where
+  pub valid : Valid n (run .row)
+  pub named : 0 < run .identifier
+  pub word : run .identifier ≤ mostIdentifier
 
 -- every add is accepted, and what is found after them is the run that was added, or is as before
 record Taken (n : ℕ) (w : List ℕ) (given : List Run) : Type 0 where
@@ -152,6 +152,36 @@ unfolding every
 adds-words [] f = refl
 adds-words (r ∷ rs) f = and-both _ _ (le-leb (r .identifier) mostIdentifier (f r (List·Memᴰ·head refl))) (adds-words rs (λ x m. f x (List·Memᴰ·tail m)))
 
+-- ---- runs added to an opened study that has room for them
+
+module _ (n : ℕ) (w : List ℕ) (rs : List Run) (o : opened n w .verdict ≡ accepted) (once : Distinct rs) (fit : (r : Run) → List·Memᴰ r rs → Fit n r)
+    (few : length rs ≤ capacity (length w) n) where
+  none-found : (i : ℕ) → Absent i (runs (opened n w .words))
+  unfolding find
+  none-found i = ap (find i) (opened-none n w o)
+
+  filled : Taken n (opened n w .words) rs
+  filled = adds-taken (length w) n (opened n w .words) rs (opened-kept n w o) record {
+    once = once;
+    fit = fit;
+    new = λ r m. none-found (r .identifier);
+    room = omega (arith, length-runs (opened n w .words), ap length (opened-none n w o), few);
+  }
+
+  -- each of them is taken
+  pub filled-takes : every isAccepted (studyAnswers n w (adds rs)) ≡ true
+  filled-takes = filled .all
+
+  -- and then the words are theirs, in the order of their identifiers
+  pub filled-words : studyAfter n w (adds rs) ≡ encode (length w) n (gathered n rs)
+  filled-words = study-words n w (adds rs) o named ∙ ap (encode (length w) n)
+      (rising-unique 0 (runs (studyAfter n w (adds rs))) (gathered n rs) (study-kept n w (adds rs) o named .formed .rises)
+      (gathered-rising n rs once (λ r m. fit r m .named))
+      (λ i. filled .each i ∙ ap (orOld n (find i rs)) (none-found i) ∙ sym (find-gathered n rs once i)))
+    where
+      named : identified (adds rs) ≡ true
+      named = adds-words rs (λ r m. fit r m .word)
+
 -- ---- the runs in force, added to a fresh study
 
 -- what stands for a last accepted call is stored as the call was
@@ -208,55 +238,26 @@ module _ (n : ℕ) (w : List ℕ) (h : List Call) (given : List Run) (o : opened
   given-length : length given ≡ length old
   given-length = sym (length-gathered n given) ∙ ap length given-all
 
-  -- their adds name words
-  given-words : identified (adds given) ≡ true
-  given-words = adds-words given (λ r m. given-fit r m .word)
-
   module _ (fresh : List ℕ) (l : length fresh ≡ length w) where
-    abbrev new : List ℕ
-    new = opened n fresh .words
-
     fresh-opens : opened n fresh .verdict ≡ accepted
     fresh-opens = let a = opened-accepts n w .0 o in opened-accepts n fresh .1 record { least = a .least; most = a .most; one = rw l (a .one) }
 
-    fresh-kept : Kept (length w) n new
-    fresh-kept = rw l at (opened-kept n fresh fresh-opens)
-
-    none-found : (i : ℕ) → Absent i (runs new)
-    unfolding find
-    none-found i = ap (find i) (opened-none n fresh fresh-opens)
-
-    fresh-room : inForce new + length given ≤ capacity (length w) n
-    fresh-room =
+    few : length given ≤ capacity (length fresh) n
+    few =
         let f = rw (kept .size, kept .same) at (kept .formed .fits) in
-        omega (arith, length-runs new, ap length (opened-none n fresh fresh-opens), given-length, length-runs (studyAfter n w h))
-
-    fresh-taken : Taken n new given
-    fresh-taken = adds-taken (length w) n new given fresh-kept record {
-      once = anew .once;
-      fit = given-fit;
-      new = λ r m. none-found (r .identifier);
-      room = fresh-room;
-    }
-
-    same-runs : runs (studyAfter n fresh (adds given)) ≡ old
-    same-runs =
-        rising-unique 0 (runs (studyAfter n fresh (adds given))) old (study-kept n fresh (adds given) fresh-opens given-words .formed .rises) up
-        (λ i. fresh-taken .each i ∙ ap (orOld n (find i given)) (none-found i) ∙ given-found i)
+        rw l (omega (arith, given-length, length-runs (studyAfter n w h)))
 
     -- DEMAND 3 (RULES D3): after any history from opening on, refused calls among them, take a fresh buffer of the same length, whatever its words.
     -- It can be opened for the same n, takes the runs in force, in any order and each as any row with the groups of its last accepted add, and
     -- has the same words then
     pub demand-3 : Renewed n w h fresh given
-    demand-3 =
-        let k = study-kept n fresh (adds given) fresh-opens given-words in
-        record {
-          opens = fresh-opens;
-          takes = fresh-taken .all;
-          words =
-              formed-unique (studyAfter n fresh (adds given)) (studyAfter n w h) (k .formed) (kept .formed)
-              (k .size ∙ l ∙ sym (kept .size)) (k .same ∙ sym (kept .same)) same-runs;
-        }
+    demand-3 = record {
+      opens = fresh-opens;
+      takes = filled-takes n fresh given fresh-opens (anew .once) given-fit few;
+      words =
+          filled-words n fresh given fresh-opens (anew .once) given-fit few
+          ∙ (rw (l, given-all) (sym (study-words n w h o e)));
+    }
 
 -- ---- in any order
 

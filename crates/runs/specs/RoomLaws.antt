@@ -1,15 +1,13 @@
 -- The room of a withdrawn run (RULES D3): after an accepted withdrawal and any refused calls no add is refused with 12. Assumes nothing.
-use Prim.Native.Nat.{ℕ, _<_}
+use Prim.Native.Nat.{ℕ}
 use mathlib.Core.Path.{_≡_, refl, sym, ap, _∙_}
 use mathlib.Core.List.{List, [], _∷_, _++_}
 use mathlib.Core.Bool.{true, false, not}
-use native.Mathlib.Omega.{arith}
-use lib.Dec.{ltb}
-use borrow.Author.Tests.{ltb-true, not-true}
+use borrow.Author.Tests.{not-true}
 use Rattle.trees.specs.Checks.{Verdict, accepted, refused, Check, _⊳_, check3, rowChecks}
 use Rattle.trees.specs.Valid.{isAccepted}
 use Rattle.trees.specs.BoolLaws.{and-l, and-r}
-use Rattle.trees.specs.ChainLaws.{chain-append, chain-go, chain-end, Given, here, later, chain-given, accepted-other}
+use Rattle.trees.specs.ChainLaws.{chain-append, chain-go, chain-end, chain-given, accepted-other, lacks, given-lacks}
 use Rattle.trees.specs.ValidLaws.{valid-judged}
 use Rattle.runs.specs.Runs.{every}
 use Rattle.runs.specs.Words.{samples, runs, full}
@@ -29,12 +27,6 @@ otherChecks w i row = check2 w ∷ check3 (samples w) row ∷ check4 i ∷ (rowC
 pub checks-split : (w : List ℕ) (i : ℕ) (row : List ℕ) → addChecks w i row ≡ otherChecks w i row ++ (check12 w ∷ [])
 unfolding addChecks addFormedChecks otherChecks rowChecks
 checks-split w i row = refl
-
--- a chain of checks with numbers below b gives numbers below b
-given-below : (b : ℕ) (cs : List Check) (k p : ℕ) → every (λ c. ltb (c .number) b) cs ≡ true → Given k p cs → k < b
-unfolding every
-given-below b (c ∷ cs) k p e (here q f) = rw (sym q) (ltb-true (c .number) b (and-l (ltb (c .number) b) _ e))
-given-below b (c ∷ cs) k p e (later f g) = given-below b cs k p (and-r (ltb (c .number) b) _ e) g
 
 -- calls that are all refused, whatever they were, leave the words as they were
 pub refused-after : (w : List ℕ) (h : List Call) → allRefused (answers w h) ≡ true → after w h ≡ w
@@ -69,7 +61,6 @@ module _ (w : List ℕ) (i : ℕ) (h : List Call) (e : withdrawn w i .verdict �
 
   -- so it is never refused with 12
   pub room-never : (j : ℕ) (row : List ℕ) (p : ℕ) → added u j row .verdict ≡ refused 12 p → ⊥
-  unfolding otherChecks rowChecks every
-  room-never j row p q =
-      let g = chain-given (otherChecks u j row) accepted 12 p (accepted-other 12 p) (sym (room-taken j row) ∙ q) in
-      omega (arith, given-below 12 (otherChecks u j row) 12 p refl g)
+  unfolding otherChecks rowChecks lacks
+  room-never j row p q = given-lacks (otherChecks u j row) 12 p refl
+      (chain-given (otherChecks u j row) accepted 12 p (accepted-other 12 p) (sym (room-taken j row) ∙ q))

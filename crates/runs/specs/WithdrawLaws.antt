@@ -2,7 +2,7 @@
 use Prim.Native.Nat.{ℕ, _<_}
 use mathlib.Core.Path.{_≡_, refl, sym, ap, _∙_}
 use mathlib.Core.Logic.{_↔_}
-use mathlib.Core.List.{List, [], _∷_, _++_}
+use mathlib.Core.List.{List, [], _∷_}
 use mathlib.Core.Option.{Option, some, none}
 use mathlib.Core.Bool.{true, not, cond}
 use native.Mathlib.Omega.{arith}
@@ -10,15 +10,15 @@ use lib.Dec.{eqb}
 use lib.ListN.{length}
 use borrow.Author.Tests.{eqb-false, eq-eqb, ne-eqb, not-false}
 use Rattle.trees.specs.Lists.{nowhere, at}
-use Rattle.trees.specs.Checks.{accepted, refused, Check, _⊳_, check3, rowChecks, judged}
+use Rattle.trees.specs.Checks.{accepted, refused, _⊳_, judged}
 use Rattle.trees.specs.Reporting.{Run}
-use Rattle.trees.specs.ChainLaws.{chain-go, Passed, passed-chain, chain-passed, chain-given, numbers, Exactly, accepted-other, refused-exactly, lacks, given-alone, line-passes, line-pass}
+use Rattle.trees.specs.ChainLaws.{chain-go, Passed, passed-chain, chain-passed, numbers, Exactly, accepted-other, refused-exactly, line-passes, line-pass}
 use Rattle.trees.specs.OutcomeLaws.{outcome-refused, outcome-accepted}
 use Rattle.trees.specs.ValidLaws.{judged-valid}
 use Rattle.runs.specs.Runs.{find, isSome, present, deleteRun}
 use Rattle.runs.specs.Words.{samples, inForce, runs, encode, capacity, full}
 use Rattle.runs.specs.Formed.{wellFormed, Formed}
-use Rattle.runs.specs.Calls.{check2, check4, check11, check12, addFormedChecks, addChecks, added, withdrawFormedChecks, withdrawChecks, withdrawn}
+use Rattle.runs.specs.Calls.{check2, added, withdrawFormedChecks, withdrawChecks, withdrawn}
 use Rattle.runs.specs.RunLaws.{Absent, find-delete, delete-rising, length-delete, delete-member, present-some}
 use Rattle.runs.specs.WordLaws.{room-exactly, length-runs}
 use Rattle.runs.specs.FormedLaws.{formed-to, formed-from, Room, room-runs}
@@ -110,21 +110,6 @@ module _ (w : List ℕ) (i : ℕ) (e : withdrawn w i .verdict ≡ accepted) wher
       let r : length (runs v) ≡ length (deleteRun i (runs w)) = ap (λ (u : List ℕ). length (runs u)) q ∙ ap length (withdrawn-runs w i a) in
       let c : capacity (length v) (samples v) ≡ capacity (length w) (samples w) = rw (q, k .size, k .same) in
       omega (arith, length-delete i (runs w) (a .found .0) (a .found .1), length-runs v, length-runs w, a .formed .fits)
-
-  given12 : (v : List ℕ) (j : ℕ) (row : List ℕ) (p : ℕ) → added v j row .verdict ≡ refused 12 p → check12 v .fault ≡ at p
-  unfolding added addChecks addFormedChecks rowChecks lacks
-  given12 v j row p q =
-      let front : List Check = check2 v ∷ check3 (samples v) row ∷ check4 j ∷ (rowChecks (samples v) row ++ (check11 v j ∷ [])) in
-      given-alone front (check12 v) [] 12 p refl refl (chain-given (addChecks v j row) accepted 12 p (accepted-other 12 p) q) .1
-
-  -- after an accepted withdrawal no add is refused for want of room
-  pub withdrawn-frees : (j : ℕ) (row : List ℕ) (p : ℕ) → added (withdrawn w i .words) j row .verdict ≡ refused 12 p → ⊥
-  withdrawn-frees j row p q =
-      let v : List ℕ = withdrawn w i .words in
-      let f : check12 v .fault ≡ at p = given12 v j row p q in
-      let g : check12 v .fault ≡ nowhere = line-pass 12 (full v) (room-exactly v (omega (arith, frees v refl)) .1 (frees v refl)) in
-      let z : _≡_ {A = ℕ} 0 1 = cc (sym f ∙ g) in
-      omega arith
 
   -- a valid row under an identifier that is not in force is taken
   pub withdrawn-takes : (j : ℕ) (row : List ℕ) → judged (samples w) row ≡ accepted → 0 < j → Absent j (deleteRun i (runs w))

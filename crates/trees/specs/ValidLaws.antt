@@ -129,7 +129,7 @@ module _ (n : ℕ) (r : List ℕ) where
 -- ---- specimens that no computation shows
 
 -- two samples have one tree (RULES 10.2)
-pub only-two : (r : List ℕ) → judged 2 r ≡ accepted → r ≡ (3 ∷ 2 ∷ 2 ∷ rootMark ∷ [])
+pub only-two : (r : List ℕ) → judged 2 r ≡ accepted → r ≡ (3 ∷ 2 ∷ 2 ∷ 65535 ∷ [])
 unfolding nodes parent weigh tabulate
 only-two r e = words r (judged-valid 2 r e)
   where
