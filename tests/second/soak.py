@@ -133,7 +133,8 @@ def soak_files(program: list[str], rng: Random, files: int) -> Counts:
 def agreement(counts: Counts) -> str:
     """That all of these agreed, in words."""
     files = sum(count for (name, _), count in counts.items() if name == LISTING)
-    return f"all {sum(counts.values()) - files} calls and {files} files agree with the second program"
+    calls = sum(counts.values()) - files
+    return f"all {calls} calls and {files} files agree with the second program"
 
 
 def soak(options: argparse.Namespace) -> Counts:
@@ -152,7 +153,7 @@ def main() -> int:
     parser = argparse.ArgumentParser(description="Random calls and files, held against the rules.")
     parser.add_argument("--calls", type=int, default=10000)
     parser.add_argument("--seed", type=int, default=1)
-    parser.add_argument("--ops", type=known_ops, default=active(), help="numbers, with commas between")
+    parser.add_argument("--ops", type=known_ops, default=active(), help="such as 5,6")
     parser.add_argument("--batch", type=int, default=2000, help="calls in one run of the program")
     parser.add_argument("--files", type=int, default=1000)
     parser.add_argument("--listing", type=shlex.split, help="the listing program, in one word")

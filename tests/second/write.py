@@ -107,7 +107,7 @@ def main() -> int:
     parser.add_argument("folder", type=Path, nargs="?", help="where stdin and stdout stand")
     parser.add_argument("--check", action="store_true", help="write nothing, compare")
     parser.add_argument("--count", action="store_true", help="count the calls by op and number")
-    parser.add_argument("--ops", type=known_ops, default=active(), help="numbers parted by commas")
+    parser.add_argument("--ops", type=known_ops, default=active(), help="such as 5,6")
     options = parser.parse_args()
     if options.count:
         count(options.ops)
