@@ -10,6 +10,7 @@ from __future__ import annotations
 import os
 import shutil
 import struct
+import subprocess
 import sys
 import tempfile
 from pathlib import Path
@@ -74,7 +75,7 @@ REFUSED = [
     (
         "8 0 5",
         file_of(3, (9, 4, 3, 3, 3, ROOT, 7)),
-        "slot 0 (the 1st run), word 5 of its row: it is 7; after the last node's word all have to be 0",
+        "slot 0 (the 1st run), word 5 of its row: it is 7; every word after the last node's has to be 0",
     ),
     ("9 2 4", file_of(3, ONE, TWO, (9, 5, 3, 3, 3, ROOT, 4)), "slot 2 (the 3rd run), node 4: its parents never reach the root"),
     (
@@ -89,15 +90,15 @@ REFUSED = [
     ),
     ("11 2 0", file_of(3, ONE, TWO, ONE), "slot 2 (the 3rd run): its identifier, 7, is already that of slot 0 (the 1st run)"),
     ("11 12 0", file_of(2, *PAIRS[:12], PAIRS[10]), "slot 12 (the 13th run): its identifier, 11, is already that of slot 10 (the 11th run)"),
-    ("12 1024 0", file_of(2, *PAIRS[:1025]), "slot 1024 (the 1,025th run): there is no room for it; 1,024 runs are the most"),
-    ("12 1024 0", file_of(2, *PAIRS), "slot 1024 (the 1,025th run): there is no room for it; 1,024 runs are the most"),
+    ("12 1024 0", file_of(2, *PAIRS[:1025]), "slot 1024 (the 1,025th run): there is no room for it; at most 1,024 runs are in force at once"),
+    ("12 1024 0", file_of(2, *PAIRS), "slot 1024 (the 1,025th run): there is no room for it; at most 1,024 runs are in force at once"),
     ("14 0 0", head(5, 0), "k is 0: without runs there is no tree to list"),
     ("15 0 0", b"", "the length is wrong: 0 bytes; mark, version, n and k take 9"),
     ("15 0 0", head(5, 0)[:8], "the length is wrong: 8 bytes; mark, version, n and k take 9"),
     ("15 0 0", b"arb" + CASE[3:], "the mark is wrong: 61 72 62; it has to be 41 52 42 (ARB)"),
     ("15 0 0", head(5, 0, 256), "the version is wrong: 256; it has to be 1"),
-    ("15 0 0", file_of(2, *PAIRS) + b"\0", "the length is wrong: 65,530 bytes; 65,529 are the most"),
-    ("15 0 0", file_of(2, *PAIRS, *PAIRS), "the length is wrong: 131,049 bytes; 65,529 are the most"),
+    ("15 0 0", file_of(2, *PAIRS) + b"\0", "the length is wrong: 65,530 bytes; at most 65,529 are allowed"),
+    ("15 0 0", file_of(2, *PAIRS, *PAIRS), "the length is wrong: 131,049 bytes; at most 65,529 are allowed"),
     ("15 0 0", CASE[:-1], "the length is wrong: 74 bytes; for n = 5 and k = 3 it has to be 75, which is 9 + 2k(2n+1)"),
     ("15 0 0", CASE + b"\n", "the length is wrong: 76 bytes; for n = 5 and k = 3 it has to be 75, which is 9 + 2k(2n+1)"),
     (
@@ -127,7 +128,7 @@ def test_inputs(trials: Trials, folder: Path) -> None:
     trials.expect("a file by its whole name", LISTED, run(LIST, folder / NAME, folder=inner))
     trials.expect("list by a link", LISTED, run("./list", f"../{NAME}", folder=inner))
     trials.expect("standard input", LISTED, run(LIST, "-", given=CASE))
-    too_long = "list: standard input: the length is wrong: more than 65,529 bytes; 65,529 are the most\n"
+    too_long = "list: standard input: the length is wrong: more than 65,529 bytes; at most 65,529 are allowed\n"
     trials.expect("standard input without end", Came(1, "refused 15 0 0\n", too_long), run(LIST, "-", given=head(2, 6553) + bytes(999999)))
     for name, reason in (("in ner", "Is a directory"), ("none", "No such file or directory"), ("/proc/self/mem", "Input/output error")):
         trials.expect(f"{name} is not read", Came(2, "", f"list: cannot read {name}: {reason}\n"), run(LIST, name, folder=folder))
@@ -293,9 +294,15 @@ def test_failed_programs(trials: Trials, tree: Tree) -> None:
     trials.expect("nothing runs the program", (3, ""), (came.status, came.out))
 
 
+def build_first() -> None:
+    """Builds the program if need be, in sight, so that no test has to."""
+    subprocess.run([LIST, TOP / "crates" / "listing" / "stdin"], stdout=subprocess.DEVNULL, check=False)
+
+
 def main() -> int:
     """Runs every test; the status."""
     trials = Trials()
+    build_first()
     with tempfile.TemporaryDirectory() as name:
         folder = Path(name).resolve()
         test_inputs(trials, folder)
