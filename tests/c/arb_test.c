@@ -159,7 +159,7 @@ static const struct bad_row {
 
 static int passed, failed;
 
-static void tell(const char *name, int is_right) {
+static void check(const char *name, int is_right) {
     if (is_right) {
         passed++;
         return;
@@ -223,7 +223,7 @@ static void test_example(const struct example *e) {
     }
     int is_right = same_answer(e->answer, answer_of(e, lent));
     for (int i = 0; i < BUFFERS; i++) is_right &= same_words(i, &expected[i], &lent[i]);
-    tell(e->name, is_right);
+    check(e->name, is_right);
 }
 
 static void test_bad_row(const struct bad_row *bad) {
@@ -240,13 +240,13 @@ static void test_bad_row(const struct bad_row *bad) {
 }
 
 static void test_without_buffers(void) {
-    tell("open: NULL and no words", same_answer(3, arb_open(5, NULL, 0)));
-    tell("add: NULL and no words", same_answer(2, arb_add(NULL, 0, 1, NULL, 0)));
-    tell("withdraw: NULL and no words", same_answer(2, arb_withdraw(NULL, 0, 1)));
-    tell("report: NULL and no words", same_answer(2, arb_report(NULL, 0, NULL, 0, NULL, 0)));
-    tell("judge: NULL and no words", same_answer(3, arb_judge(5, NULL, 0)));
-    tell("renumber: NULL and no words", same_answer(3, arb_renumber(5, NULL, 0, NULL, 0)));
-    tell("compare: NULL and no words", same_answer(3, arb_compare(5, NULL, 0, NULL, 0)));
+    check("open: NULL and no words", same_answer(3, arb_open(5, NULL, 0)));
+    check("add: NULL and no words", same_answer(2, arb_add(NULL, 0, 1, NULL, 0)));
+    check("withdraw: NULL and no words", same_answer(2, arb_withdraw(NULL, 0, 1)));
+    check("report: NULL and no words", same_answer(2, arb_report(NULL, 0, NULL, 0, NULL, 0)));
+    check("judge: NULL and no words", same_answer(3, arb_judge(5, NULL, 0)));
+    check("renumber: NULL and no words", same_answer(3, arb_renumber(5, NULL, 0, NULL, 0)));
+    check("compare: NULL and no words", same_answer(3, arb_compare(5, NULL, 0, NULL, 0)));
 }
 
 // Two trees of 512 samples, in standard numbering: the root over all samples, and {0,1} below the root.
@@ -275,9 +275,9 @@ static int same_report(const uint16_t *study, size_t length, const uint16_t *row
 // 512 samples are taken (RULES 10.8).
 static void test_most_samples(void) {
     static uint16_t study[ARB_STUDY_WORDS(WIDE, 1)];
-    tell("512 samples are taken", same_answer(ACCEPTED, arb_open(WIDE, study, COUNT(study))));
-    tell("their run is added", same_answer(ACCEPTED, arb_add(study, COUNT(study), ARB_MOST_IDENTIFIER, wide_rows[0], WIDE_ROW)));
-    tell("their run is reported itself, with support 1", same_report(study, COUNT(study), wide_rows[0], 1, 0));
+    check("512 samples are taken", same_answer(ACCEPTED, arb_open(WIDE, study, COUNT(study))));
+    check("their run is added", same_answer(ACCEPTED, arb_add(study, COUNT(study), ARB_MOST_IDENTIFIER, wide_rows[0], WIDE_ROW)));
+    check("their run is reported itself, with support 1", same_report(study, COUNT(study), wide_rows[0], 1, 0));
 }
 
 // n that 16 or 32 bits do not hold are refused with 1 (RULES 1.1), though what those bits leave of them fits the row.
@@ -306,7 +306,7 @@ static void test_large_n(const struct large_n *l) {
     is_right &= refuses_samples("judge", arb_judge(l->n, l->row, l->words));
     is_right &= refuses_samples("renumber", arb_renumber(l->n, l->row, l->words, out, l->words));
     is_right &= refuses_samples("compare", arb_compare(l->n, l->row, l->words, l->row, l->words));
-    tell(l->name, is_right && study[0] == 0 && out[0] == 0);
+    check(l->name, is_right && study[0] == 0 && out[0] == 0);
 }
 
 // Room for a study of more words than 16 bits can count, and for guard words after it.
@@ -318,10 +318,10 @@ static void test_most_runs(size_t length) {
     static const uint16_t row[] = {ONLY_OF_2};
     uint64_t answers = arb_open(2, long_study, length);
     for (uint16_t id = 1; id <= ARB_MOST_RUNS; id++) answers |= arb_add(long_study, length, id, row, COUNT(row));
-    tell("1024 runs are taken", same_answer(ACCEPTED, answers) && long_study[5] == ARB_MOST_RUNS);
-    tell("the 1025th is refused", same_answer(REFUSED(12, 0), arb_add(long_study, length, 1025, row, COUNT(row))));
-    tell("one is withdrawn", same_answer(ACCEPTED, arb_withdraw(long_study, length, 7)));
-    tell("the 1025th is taken", same_answer(ACCEPTED, arb_add(long_study, length, 1025, row, COUNT(row))) && long_study[5] == ARB_MOST_RUNS);
+    check("1024 runs are taken", same_answer(ACCEPTED, answers) && long_study[5] == ARB_MOST_RUNS);
+    check("the 1025th is refused", same_answer(REFUSED(12, 0), arb_add(long_study, length, 1025, row, COUNT(row))));
+    check("one is withdrawn", same_answer(ACCEPTED, arb_withdraw(long_study, length, 7)));
+    check("the 1025th is taken", same_answer(ACCEPTED, arb_add(long_study, length, 1025, row, COUNT(row))) && long_study[5] == ARB_MOST_RUNS);
 }
 
 // Whether a study of 512 samples has just these words: k runs, of which those with an odd identifier hold {0,1}, and 0 after them.
@@ -339,17 +339,17 @@ static uint64_t add_wide(size_t length, uint16_t identifier) {
     return arb_add(long_study, length, identifier, wide_rows[identifier % 2], WIDE_ROW);
 }
 
-// A long study has room for so many runs of 512 samples, and not for one more (RULES 6.6).
+// A long study takes `room` runs of 512 samples, and not one more (RULES 6.6).
 static void test_long_study(size_t length, uint16_t room) {
     uint16_t identifiers[LONG / WIDE_SLOT];
     for (size_t i = 0; i < COUNT(long_study); i++) long_study[i] = GUARD_WORD;
     uint64_t answers = arb_open(WIDE, long_study, length);
     for (uint16_t i = 0; i < room; i++) answers |= add_wide(length, identifiers[i] = i + 1);
-    tell("a long study is filled", same_answer(ACCEPTED, answers) && holds_runs(long_study, length, identifiers, room));
-    tell("one run more is refused", same_answer(REFUSED(12, 0), add_wide(length, room + 1)) && holds_runs(long_study, length, identifiers, room));
+    check("a long study is filled", same_answer(ACCEPTED, answers) && holds_runs(long_study, length, identifiers, room));
+    check("one run more is refused", same_answer(REFUSED(12, 0), add_wide(length, room + 1)) && holds_runs(long_study, length, identifiers, room));
     int is_right = 1;
     for (size_t i = length; i < COUNT(long_study); i++) is_right &= long_study[i] == GUARD_WORD;
-    tell("the words after a long study are as they were", is_right);
+    check("the words after a long study are as they were", is_right);
 }
 
 // 34 of 68 runs are half of them and too few for {0,1}; 35 are enough (RULES 5.1 and 5.2).
@@ -357,20 +357,20 @@ static void test_long_report(void) {
     enum { RUNS = 68 };
     uint16_t identifiers[RUNS];
     for (int i = 0; i < RUNS; i++) identifiers[i] = i + 1;
-    tell("half of a long study's runs", same_report(long_study, LONG, wide_rows[0], RUNS, 0));
-    tell("its last run is withdrawn", same_answer(ACCEPTED, arb_withdraw(long_study, LONG, RUNS)) && holds_runs(long_study, LONG, identifiers, RUNS - 1));
+    check("half of a long study's runs", same_report(long_study, LONG, wide_rows[0], RUNS, 0));
+    check("its last run is withdrawn", same_answer(ACCEPTED, arb_withdraw(long_study, LONG, RUNS)) && holds_runs(long_study, LONG, identifiers, RUNS - 1));
     identifiers[RUNS - 1] = RUNS + 1;
-    tell("another takes its room", same_answer(ACCEPTED, add_wide(LONG, RUNS + 1)) && holds_runs(long_study, LONG, identifiers, RUNS));
-    tell("one more than half", same_report(long_study, LONG, wide_rows[1], RUNS, 35));
+    check("another takes its room", same_answer(ACCEPTED, add_wide(LONG, RUNS + 1)) && holds_runs(long_study, LONG, identifiers, RUNS));
+    check("one more than half", same_report(long_study, LONG, wide_rows[1], RUNS, 35));
 }
 
 // The macros, on numbers packed by hand: 10 at place 4, and 7, 1 and 1 counted.
 static void test_macros(void) {
     uint64_t answer = 0x40A, counted = 0x0001000100070000;
-    tell("an answer of 0 is accepted", ARB_ACCEPTED((uint64_t)0) && ARB_NUMBER((uint64_t)0) == 0);
-    tell("a refusal's number and place", !ARB_ACCEPTED(answer) && ARB_NUMBER(answer) == ARB_REFUSAL_CHILDREN && ARB_PLACE(answer) == 4);
-    tell("three counts", ARB_ACCEPTED(counted) && ARB_IN_BOTH(counted) == 7 && ARB_ONLY_FIRST(counted) == 1 && ARB_ONLY_SECOND(counted) == 1);
-    tell("words of rows and studies", ARB_ROW_WORDS(5) == 10 && ARB_SLOT_WORDS(5) == 11 && ARB_STUDY_WORDS(5, 3) == 41 && ARB_STUDY_WORDS(2, 1) == 13);
+    check("an answer of 0 is accepted", ARB_ACCEPTED((uint64_t)0) && ARB_NUMBER((uint64_t)0) == 0);
+    check("a refusal's number and place", !ARB_ACCEPTED(answer) && ARB_NUMBER(answer) == ARB_REFUSAL_CHILDREN && ARB_PLACE(answer) == 4);
+    check("three counts", ARB_ACCEPTED(counted) && ARB_IN_BOTH(counted) == 7 && ARB_ONLY_FIRST(counted) == 1 && ARB_ONLY_SECOND(counted) == 1);
+    check("words of rows and studies", ARB_ROW_WORDS(5) == 10 && ARB_SLOT_WORDS(5) == 11 && ARB_STUDY_WORDS(5, 3) == 41 && ARB_STUDY_WORDS(2, 1) == 13);
 }
 
 int main(void) {

@@ -5,7 +5,7 @@ python3 write.py --check FOLDER    fails if they are not byte for byte what it w
                                    or if a number that a call can give comes too seldom
 python3 write.py --count           counts the calls by op and number, and the bytes by op
 
-With --ops 5,6,7 it does so for these ops, whether they are stored by now or not.
+With --ops 5,6,7 it does so for these ops, whether they are stored or not.
 """
 
 from __future__ import annotations
