@@ -20,7 +20,7 @@ fail() {
   echo "c: failed: $1"
 }
 
-# Runs the test, and takes over what its last line counts.
+# Runs the test, and adds the counts in its last line.
 run_test() {
   tests/build-c tests/c/arb_test.c target/c/arb_test -pedantic -Wno-missing-field-initializers || { fail "building the test"; return; }
   local said status

@@ -3,8 +3,8 @@
 #
 #   tests/listing.sh PROGRAM [ARGUMENT...]
 #
-# Its last line is 'N passed, M failed'; its status is 0 only if M is 0 and N is not. The files, each with the output
-# that it has to give, are written by `python3 tests/second/files.py FOLDER`.
+# Its last line is 'N passed, M failed'; its status is 0 only if M is 0 and N is not. `python3 tests/second/files.py FOLDER`
+# writes the files, each with the output that it has to give.
 set -u
 if [[ $# -eq 0 ]]; then
   echo "usage: tests/listing.sh PROGRAM [ARGUMENT...]" >&2

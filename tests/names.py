@@ -1,6 +1,6 @@
-"""Each name in backquotes in docs/PROMISES.md is one of the repository's: a definition, law, function, crate, file or must-fail edit; and each edit is named there.
+"""Every name in backquotes in docs/PROMISES.md exists here (a definition, law, function, crate, file or must-fail edit), and the page names every edit.
 
-python3 tests/names.py    says what is not so; the status is then 1
+python3 tests/names.py    says where that is not so; its status is then 1
 """
 
 import re
@@ -9,7 +9,7 @@ from pathlib import Path
 
 TOP = Path(__file__).resolve().parent.parent
 PAGE = "docs/PROMISES.md"
-WORD = r"[^\s(){}\[\].,;:⌜⌝λ·]+"  # as names are parted in the crates
+WORD = r"[^\s(){}\[\].,;:⌜⌝λ·]+"  # a name in the crates
 ROOTS = [TOP, TOP / "crates", TOP / "tests" / "second", TOP / "crates" / "replay"]
 
 

@@ -1,5 +1,6 @@
-// Makes every call of include/arb.h on document 01's case and specimens, and on each refusal that the call can give.
-// Expected words follow document 01 alone. The last line is 'N passed, M failed'; the status is 0 only if M is 0 and N is not.
+// Makes every call of include/arb.h on the specimens of docs/RULES.md (section 10), on each refusal that the call can give, and at the
+// bounds of n, of runs and of lengths. Expected words follow the rules alone, by hand. The last line is 'N passed, M failed'; the status
+// is 0 only if M is 0 and N is not.
 #include "arb.h"
 #include <stdio.h>
 #include <string.h>
@@ -8,7 +9,7 @@ enum { ROOT = 65535, ROOM = 48, GUARD = 4, GUARD_WORD = 48879, LENT_WORDS = GUAR
 
 #define COUNT(table) (sizeof(table) / sizeof *(table))
 
-// Words of a buffer: those that are not given are 0.
+// The words of a buffer; those that are not given are 0.
 struct words {
     size_t length;
     uint16_t at[ROOM];
@@ -16,7 +17,8 @@ struct words {
 
 enum call { OPEN, ADD, WITHDRAW, REPORT, JUDGE, RENUMBER, COMPARE };
 
-// A call: x is n or the identifier, `lent` its buffers in the order in which it takes them. A buffer that `left` does not give is to stay as it was.
+// A call: x is n or the identifier; `lent` has its buffers in the order in which it takes them, `left` what they hold afterwards. A buffer
+// that `left` does not give has to stay as it was.
 struct example {
     const char *name;
     enum call call;
@@ -37,7 +39,8 @@ struct example {
 #define AGREED 9, 7, 7, 6, 8, 8, ROOT, 5, 6, 5
 #define SUPPORT 3, 3, 3, 3, 3, 3, 3, 2, 2, 2
 
-// Rows of 2 and of 3 samples: the only tree of 2; {0,1}, the same in another numbering, {0,2}, and neither; one whose node 4 has one child.
+// Rows of 2 and of 3 samples: the only tree of 2; with the group {0,1}, the same in another numbering, with {0,2}, with neither; and one
+// whose node 4 has one child.
 #define ONLY_OF_2 3, 2, 2, ROOT
 #define WITH_01 5, 4, 4, 3, ROOT, 3
 #define WITH_01_OTHERWISE 5, 3, 3, 4, 4, ROOT
@@ -75,6 +78,7 @@ static const struct example accepted[] = {
     {"an identifier is added again with another tree", ADD, 1, ACCEPTED, {CASE_0, ROW_5(RUN_3)}, {STUDY_5(HEADER(5, 1), 1, RUN_3)}},
     {"identifier 65535 is added", ADD, 65535, ACCEPTED, {{13, {HEADER(2, 0)}}, {4, {ONLY_OF_2}}}, {{13, {HEADER(2, 1), 65535, ONLY_OF_2}}}},
     {"identifier 65535 is withdrawn", WITHDRAW, 65535, ACCEPTED, {{13, {HEADER(2, 1), 65535, ONLY_OF_2}}}, {{13, {HEADER(2, 0)}}}},
+    {"the last room is taken", ADD, 7, ACCEPTED, {STUDY_3(HEADER(3, 1), 6, WITH_01), ROW_3(WITH_02)}, {STUDY_3(HEADER(3, 2), 6, WITH_01, 7, WITH_02)}},
     {"a longer buffer has more room", ADD, 7, ACCEPTED, {{29, {HEADER(3, 2), 5, WITH_02, 6, WITH_01}}, ROW_3(WITH_01)},
         {{29, {HEADER(3, 3), 5, WITH_02, 6, WITH_01, 7, WITH_01}}}},
     {"one run is reported itself", REPORT, 0, ACCEPTED, {CASE_1, ROW_5(OLD_10), ROW_5(OLD_10)}, {NONE, ROW_5(RUN_1), ROW_5(1, 1, 1, 1, 1, 1, 1, 1, 1, 0)}},
@@ -109,8 +113,9 @@ static const struct example refused[] = {
     {"add: an identifier in force", ADD, 6, REFUSED(11, 0), {STUDY_3(HEADER(3, 1), 6, WITH_01), ROW_3(WITH_02)}},
     {"add: an identifier in force, and no room", ADD, 6, REFUSED(11, 0), {STUDY_3(HEADER(3, 2), 5, WITH_02, 6, WITH_01), ROW_3(WITH_02)}},
     {"add: no room", ADD, 7, REFUSED(12, 0), {STUDY_3(HEADER(3, 2), 5, WITH_02, 6, WITH_01), ROW_3(WITH_02)}},
+    {"add: a word too few for a second run", ADD, 7, REFUSED(12, 0), {{21, {HEADER(3, 1), 6, WITH_01}}, ROW_3(WITH_02)}},
 
-    {"withdraw: a word behind the last slot, and identifier 0", WITHDRAW, 0, REFUSED(2, 0), {STUDY_3(HEADER(3, 1), 6, WITH_01, 1)}},
+    {"withdraw: a word after the last slot, and identifier 0", WITHDRAW, 0, REFUSED(2, 0), {STUDY_3(HEADER(3, 1), 6, WITH_01, 1)}},
     {"withdraw: a row in another numbering", WITHDRAW, 6, REFUSED(2, 0), {STUDY_3(HEADER(3, 1), 6, WITH_01_OTHERWISE)}},
     {"withdraw: identifier 0", WITHDRAW, 0, REFUSED(4, 0), {STUDY_3(HEADER(3, 1), 6, WITH_01)}},
     {"withdraw: an identifier not in force", WITHDRAW, 7, REFUSED(13, 0), {STUDY_3(HEADER(3, 1), 6, WITH_01)}},
@@ -154,7 +159,7 @@ static const struct bad_row {
 
 static int passed, failed;
 
-static void tell(const char *name, int is_right) {
+static void check(const char *name, int is_right) {
     if (is_right) {
         passed++;
         return;
@@ -185,7 +190,7 @@ static int same_answer(uint64_t expected, uint64_t came) {
     return 0;
 }
 
-// Whether a buffer and its guards are as expected. A word before or behind the buffer is a guard.
+// Whether a buffer and its guards are as expected. A word before the buffer or after it is a guard.
 static int same_words(int buffer, const struct lent *expected, const struct lent *came) {
     for (int i = 0; i < LENT_WORDS; i++) {
         if (came->words[i] == expected->words[i]) continue;
@@ -218,7 +223,7 @@ static void test_example(const struct example *e) {
     }
     int is_right = same_answer(e->answer, answer_of(e, lent));
     for (int i = 0; i < BUFFERS; i++) is_right &= same_words(i, &expected[i], &lent[i]);
-    tell(e->name, is_right);
+    check(e->name, is_right);
 }
 
 static void test_bad_row(const struct bad_row *bad) {
@@ -235,48 +240,137 @@ static void test_bad_row(const struct bad_row *bad) {
 }
 
 static void test_without_buffers(void) {
-    tell("open: NULL and no words", same_answer(3, arb_open(5, NULL, 0)));
-    tell("add: NULL and no words", same_answer(2, arb_add(NULL, 0, 1, NULL, 0)));
-    tell("withdraw: NULL and no words", same_answer(2, arb_withdraw(NULL, 0, 1)));
-    tell("report: NULL and no words", same_answer(2, arb_report(NULL, 0, NULL, 0, NULL, 0)));
-    tell("judge: NULL and no words", same_answer(3, arb_judge(5, NULL, 0)));
-    tell("renumber: NULL and no words", same_answer(3, arb_renumber(5, NULL, 0, NULL, 0)));
-    tell("compare: NULL and no words", same_answer(3, arb_compare(5, NULL, 0, NULL, 0)));
+    check("open: NULL and no words", same_answer(3, arb_open(5, NULL, 0)));
+    check("add: NULL and no words", same_answer(2, arb_add(NULL, 0, 1, NULL, 0)));
+    check("withdraw: NULL and no words", same_answer(2, arb_withdraw(NULL, 0, 1)));
+    check("report: NULL and no words", same_answer(2, arb_report(NULL, 0, NULL, 0, NULL, 0)));
+    check("judge: NULL and no words", same_answer(3, arb_judge(5, NULL, 0)));
+    check("renumber: NULL and no words", same_answer(3, arb_renumber(5, NULL, 0, NULL, 0)));
+    check("compare: NULL and no words", same_answer(3, arb_compare(5, NULL, 0, NULL, 0)));
 }
 
-// "2 and 512 are taken": the tree of 512 samples without groups between.
+// Two trees of 512 samples, in standard numbering: the root over all samples, and {0,1} below the root.
+enum { WIDE = ARB_MOST_SAMPLES, WIDE_ROW = ARB_ROW_WORDS(WIDE), WIDE_SLOT = ARB_SLOT_WORDS(WIDE) };
+static uint16_t wide_rows[2][WIDE_ROW];
+
+static void write_wide_rows(void) {
+    for (int i = 0; i < 2; i++) {
+        wide_rows[i][0] = WIDE + 1 + i;
+        for (int v = 0; v < WIDE; v++) wide_rows[i][1 + v] = WIDE;
+        wide_rows[i][1 + WIDE] = ROOT;
+    }
+    wide_rows[1][1 + 0] = wide_rows[1][1 + 1] = WIDE + 1;
+    wide_rows[1][1 + WIDE + 1] = WIDE;
+}
+
+// Whether the report of a study of 512 samples has this agreed row and supports of k, where `pair` runs hold {0,1}.
+static int same_report(const uint16_t *study, size_t length, const uint16_t *row, uint16_t k, uint16_t pair) {
+    static uint16_t agreed[WIDE_ROW], support[WIDE_ROW], expected[WIDE_ROW];
+    for (int i = 0; i < WIDE_ROW; i++) expected[i] = i <= 1 + WIDE ? k : 0;
+    if (row[0] > WIDE + 1) expected[1 + WIDE + 1] = pair;
+    return same_answer(ACCEPTED, arb_report(study, length, agreed, WIDE_ROW, support, WIDE_ROW)) && memcmp(agreed, row, sizeof agreed) == 0
+        && memcmp(support, expected, sizeof support) == 0;
+}
+
+// 512 samples are taken (RULES 10.8).
 static void test_most_samples(void) {
-    enum { N = ARB_MOST_SAMPLES };
-    static uint16_t study[ARB_STUDY_WORDS(N, 1)], row[ARB_ROW_WORDS(N)], agreed[ARB_ROW_WORDS(N)], support[ARB_ROW_WORDS(N)];
-    row[0] = N + 1;
-    for (int v = 0; v < N; v++) row[1 + v] = N;
-    row[1 + N] = ARB_ROOT_MARK;
-    tell("512 samples are taken", same_answer(ACCEPTED, arb_open(N, study, COUNT(study))));
-    tell("their run is added", same_answer(ACCEPTED, arb_add(study, COUNT(study), ARB_MOST_IDENTIFIER, row, COUNT(row))));
-    tell("their run is reported", same_answer(ACCEPTED, arb_report(study, COUNT(study), agreed, COUNT(agreed), support, COUNT(support))));
-    tell("the agreed row is the run", memcmp(agreed, row, sizeof row) == 0);
-    tell("its support is 1", support[0] == 1 && support[1 + N] == 1 && support[2 + N] == 0);
+    static uint16_t study[ARB_STUDY_WORDS(WIDE, 1)];
+    check("512 samples are taken", same_answer(ACCEPTED, arb_open(WIDE, study, COUNT(study))));
+    check("their run is added", same_answer(ACCEPTED, arb_add(study, COUNT(study), ARB_MOST_IDENTIFIER, wide_rows[0], WIDE_ROW)));
+    check("their run is reported itself, with support 1", same_report(study, COUNT(study), wide_rows[0], 1, 0));
 }
 
-// "The 1,025th run gives 12; after a withdrawal it is taken."
-static void test_most_runs(void) {
-    static uint16_t study[ARB_STUDY_WORDS(2, ARB_MOST_RUNS + 1)];
+// n that 16 or 32 bits do not hold are refused with 1 (RULES 1.1), though what those bits leave of them fits the row.
+static const struct large_n {
+    const char *name;
+    size_t n, words;
+    const uint16_t *row;
+} large_ns[] = {
+    {"n is 2^16", 65536, 6, (const uint16_t[]){WITH_01}},
+    {"n is 2^16 + 3", 65536 + 3, 6, (const uint16_t[]){WITH_01}},
+    {"n is 2^16 + 512", 65536 + 512, WIDE_ROW, wide_rows[0]},
+    {"n is 2^32 + 5", 4294967296 + 5, 10, (const uint16_t[]){RUN_1}},
+};
+
+static int refuses_samples(const char *call, uint64_t answer) {
+    if (same_answer(REFUSED(1, 0), answer)) return 1;
+    printf("in %s\n", call);
+    return 0;
+}
+
+static void test_large_n(const struct large_n *l) {
+    static uint16_t study[ARB_STUDY_WORDS(WIDE, 1)], out[WIDE_ROW];
+    memset(study, 0, sizeof study);
+    memset(out, 0, sizeof out);
+    int is_right = refuses_samples("open", arb_open(l->n, study, COUNT(study)));
+    is_right &= refuses_samples("judge", arb_judge(l->n, l->row, l->words));
+    is_right &= refuses_samples("renumber", arb_renumber(l->n, l->row, l->words, out, l->words));
+    is_right &= refuses_samples("compare", arb_compare(l->n, l->row, l->words, l->row, l->words));
+    check(l->name, is_right && study[0] == 0 && out[0] == 0);
+}
+
+// Room for a study of more words than 16 bits can count, and for guard words after it.
+enum { LONG = 70000 };
+static uint16_t long_study[LONG + GUARD];
+
+// Run number 1,025 is refused with 12, and taken after a withdrawal (RULES 10.9), however long the buffer is.
+static void test_most_runs(size_t length) {
     static const uint16_t row[] = {ONLY_OF_2};
-    uint64_t answers = arb_open(2, study, COUNT(study));
-    for (uint16_t id = 1; id <= ARB_MOST_RUNS; id++) answers |= arb_add(study, COUNT(study), id, row, COUNT(row));
-    tell("1024 runs are taken", same_answer(ACCEPTED, answers) && study[5] == ARB_MOST_RUNS);
-    tell("the 1025th is refused", same_answer(12, arb_add(study, COUNT(study), 1025, row, COUNT(row))));
-    tell("one is withdrawn", same_answer(ACCEPTED, arb_withdraw(study, COUNT(study), 7)));
-    tell("the 1025th is taken", same_answer(ACCEPTED, arb_add(study, COUNT(study), 1025, row, COUNT(row))) && study[5] == ARB_MOST_RUNS);
+    uint64_t answers = arb_open(2, long_study, length);
+    for (uint16_t id = 1; id <= ARB_MOST_RUNS; id++) answers |= arb_add(long_study, length, id, row, COUNT(row));
+    check("1024 runs are taken", same_answer(ACCEPTED, answers) && long_study[5] == ARB_MOST_RUNS);
+    check("the 1025th is refused", same_answer(REFUSED(12, 0), arb_add(long_study, length, 1025, row, COUNT(row))));
+    check("one is withdrawn", same_answer(ACCEPTED, arb_withdraw(long_study, length, 7)));
+    check("the 1025th is taken", same_answer(ACCEPTED, arb_add(long_study, length, 1025, row, COUNT(row))) && long_study[5] == ARB_MOST_RUNS);
+}
+
+// Whether a study of 512 samples has just these words: k runs, of which those with an odd identifier hold {0,1}, and 0 after them.
+static int holds_runs(const uint16_t *study, size_t length, const uint16_t *identifiers, uint16_t k) {
+    const uint16_t header[] = {HEADER(WIDE, k)};
+    const uint16_t *slot = study + COUNT(header);
+    int is_right = memcmp(study, header, sizeof header) == 0;
+    for (int i = 0; i < k; i++, slot += WIDE_SLOT)
+        is_right &= slot[0] == identifiers[i] && memcmp(slot + 1, wide_rows[identifiers[i] % 2], sizeof wide_rows[0]) == 0;
+    while (slot < study + length) is_right &= *slot++ == 0;
+    return is_right;
+}
+
+static uint64_t add_wide(size_t length, uint16_t identifier) {
+    return arb_add(long_study, length, identifier, wide_rows[identifier % 2], WIDE_ROW);
+}
+
+// A long study takes `room` runs of 512 samples, and not one more (RULES 6.6).
+static void test_long_study(size_t length, uint16_t room) {
+    uint16_t identifiers[LONG / WIDE_SLOT];
+    for (size_t i = 0; i < COUNT(long_study); i++) long_study[i] = GUARD_WORD;
+    uint64_t answers = arb_open(WIDE, long_study, length);
+    for (uint16_t i = 0; i < room; i++) answers |= add_wide(length, identifiers[i] = i + 1);
+    check("a long study is filled", same_answer(ACCEPTED, answers) && holds_runs(long_study, length, identifiers, room));
+    check("one run more is refused", same_answer(REFUSED(12, 0), add_wide(length, room + 1)) && holds_runs(long_study, length, identifiers, room));
+    int is_right = 1;
+    for (size_t i = length; i < COUNT(long_study); i++) is_right &= long_study[i] == GUARD_WORD;
+    check("the words after a long study are as they were", is_right);
+}
+
+// 34 of 68 runs are half of them and too few for {0,1}; 35 are enough (RULES 5.1 and 5.2).
+static void test_long_report(void) {
+    enum { RUNS = 68 };
+    uint16_t identifiers[RUNS];
+    for (int i = 0; i < RUNS; i++) identifiers[i] = i + 1;
+    check("half of a long study's runs", same_report(long_study, LONG, wide_rows[0], RUNS, 0));
+    check("its last run is withdrawn", same_answer(ACCEPTED, arb_withdraw(long_study, LONG, RUNS)) && holds_runs(long_study, LONG, identifiers, RUNS - 1));
+    identifiers[RUNS - 1] = RUNS + 1;
+    check("another takes its room", same_answer(ACCEPTED, add_wide(LONG, RUNS + 1)) && holds_runs(long_study, LONG, identifiers, RUNS));
+    check("one more than half", same_report(long_study, LONG, wide_rows[1], RUNS, 35));
 }
 
 // The macros, on numbers packed by hand: 10 at place 4, and 7, 1 and 1 counted.
 static void test_macros(void) {
     uint64_t answer = 0x40A, counted = 0x0001000100070000;
-    tell("an answer of 0 is accepted", ARB_ACCEPTED((uint64_t)0) && ARB_NUMBER((uint64_t)0) == 0);
-    tell("a refusal's number and place", !ARB_ACCEPTED(answer) && ARB_NUMBER(answer) == ARB_REFUSAL_CHILDREN && ARB_PLACE(answer) == 4);
-    tell("three counts", ARB_ACCEPTED(counted) && ARB_IN_BOTH(counted) == 7 && ARB_ONLY_FIRST(counted) == 1 && ARB_ONLY_SECOND(counted) == 1);
-    tell("words of rows and studies", ARB_ROW_WORDS(5) == 10 && ARB_SLOT_WORDS(5) == 11 && ARB_STUDY_WORDS(5, 3) == 41 && ARB_STUDY_WORDS(2, 1) == 13);
+    check("an answer of 0 is accepted", ARB_ACCEPTED((uint64_t)0) && ARB_NUMBER((uint64_t)0) == 0);
+    check("a refusal's number and place", !ARB_ACCEPTED(answer) && ARB_NUMBER(answer) == ARB_REFUSAL_CHILDREN && ARB_PLACE(answer) == 4);
+    check("three counts", ARB_ACCEPTED(counted) && ARB_IN_BOTH(counted) == 7 && ARB_ONLY_FIRST(counted) == 1 && ARB_ONLY_SECOND(counted) == 1);
+    check("words of rows and studies", ARB_ROW_WORDS(5) == 10 && ARB_SLOT_WORDS(5) == 11 && ARB_STUDY_WORDS(5, 3) == 41 && ARB_STUDY_WORDS(2, 1) == 13);
 }
 
 int main(void) {
@@ -284,8 +378,17 @@ int main(void) {
     for (size_t i = 0; i < COUNT(refused); i++) test_example(&refused[i]);
     for (size_t i = 0; i < COUNT(bad_rows); i++) test_bad_row(&bad_rows[i]);
     test_without_buffers();
+    write_wide_rows();
     test_most_samples();
-    test_most_runs();
+    for (size_t i = 0; i < COUNT(large_ns); i++) test_large_n(&large_ns[i]);
+    test_most_runs(ARB_STUDY_WORDS(2, ARB_MOST_RUNS));
+    test_most_runs(ARB_STUDY_WORDS(2, ARB_MOST_RUNS + 1));
+    test_most_runs(LONG);
+    test_long_study(65536, 63);
+    test_long_study(69707, 67);
+    test_long_study(69708, 68);
+    test_long_study(LONG, 68);
+    test_long_report();
     test_macros();
     printf("%d passed, %d failed\n", passed, failed);
     return failed != 0 || passed == 0;

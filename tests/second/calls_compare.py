@@ -25,7 +25,7 @@ def compare_trees(rng: Random, n: int, first: Tree, second: Tree) -> Call:
 
 
 def specimens() -> Iterator[Call]:
-    """Every pair of the specimen rows of document 01, refused ones in either place and in both."""
+    """Every pair of the specimen rows of RULES 10, refused ones in either place and in both."""
     yield compare(2, ONLY_TREE_OF_2, ONLY_TREE_OF_2)
     for first, second in product(ROWS_OF_3, repeat=2):
         yield compare(3, first, second)
@@ -105,7 +105,7 @@ def long_chains(rng: Random) -> Iterator[Call]:
 
 
 def in_either_place(rng: Random, n: int, row: Words) -> Iterator[Call]:
-    """A row before a valid one, and behind one."""
+    """A row before a valid one, and after one."""
     yield compare(n, row, rows.valid_row(rng, n))
     yield compare(n, rows.valid_row(rng, n), row)
 
@@ -127,7 +127,7 @@ def wide_rows(rng: Random) -> Iterator[Call]:
 
 
 def wrong_sizes(rng: Random) -> Iterator[Call]:
-    """Rows of all sorts with n that is none."""
+    """Rows of all sorts with n out of range."""
     for n in rows.WRONG_SIZES:
         in_16_bits = 2 * n % 65536
         lengths = [0, 1, 4] + [in_16_bits] * (in_16_bits <= 2048)

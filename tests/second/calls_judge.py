@@ -20,7 +20,7 @@ def judge(n: int, row: Words) -> Call:
 
 
 def specimens() -> Iterator[Call]:
-    """The specimen rows of document 01, and its three runs."""
+    """The specimen rows of RULES 10, and its three runs."""
     yield judge(2, ONLY_TREE_OF_2)
     for row in ROWS_OF_3:
         yield judge(3, row)
@@ -29,7 +29,7 @@ def specimens() -> Iterator[Call]:
 
 
 def sizes(rng: Random) -> Iterator[Call]:
-    """ "n of 1 and 513 give 1; 2 and 512 are taken" """
+    """RULES 10.8: the bounds of n, on both sides."""
     for shape in shapes.SHAPES:
         for n in (2, 512):
             yield judge(n, rows.shuffled_row(rng, n, shape(rng, n)))
@@ -41,7 +41,7 @@ def sizes(rng: Random) -> Iterator[Call]:
 
 
 def wrong_sizes(rng: Random) -> Iterator[Call]:
-    """Rows of all sorts with n that is none, the empty row among them."""
+    """Rows of all sorts with n out of range, the empty row among them."""
     for n in rows.WRONG_SIZES:
         yield judge(n, [])
         in_16_bits = 2 * n % 65536
@@ -58,7 +58,7 @@ def every_row_of_2() -> Iterator[Call]:
 
 
 def every_row_of_3() -> Iterator[Call]:
-    """Every row of three samples over a small alphabet; a smaller one where m is unfit."""
+    """Every row of three samples over a small alphabet; a smaller one where m is out of range."""
     for m, *rest in product([4, 5], *[[0, 2, 3, 4, 5, ROOT]] * 5):
         yield judge(3, [m] + rest)
     for m, *rest in product([0, 3, 6, ROOT], *[[0, 3, ROOT]] * 5):

@@ -24,7 +24,7 @@ def onto_old(rng: Random, n: int, row: Words) -> Call:
 
 
 def specimens(rng: Random) -> Iterator[Call]:
-    """The specimen rows of document 01, and its three runs."""
+    """The specimen rows of RULES 10, and its three runs."""
     yield onto_old(rng, 2, ONLY_TREE_OF_2)
     for row in ROWS_OF_3:
         yield onto_old(rng, 3, row)
@@ -83,7 +83,7 @@ def wide_rows(rng: Random) -> Iterator[Call]:
 
 
 def wrong_sizes(rng: Random) -> Iterator[Call]:
-    """Buffers of all sorts with n that is none."""
+    """Buffers of all sorts with n out of range."""
     for n in rows.WRONG_SIZES:
         in_16_bits = 2 * n % 65536
         lengths = [0, 1, 4] + [in_16_bits] * (in_16_bits <= 2048)

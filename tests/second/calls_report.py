@@ -16,7 +16,7 @@ from sequences import in_sequences, random_in_sequences, report
 
 
 def onto_old(rng: Random, words: Words) -> Call:
-    """The report of a study into buffers that held other words; six each if its n is none."""
+    """The report of a study into buffers that held other words; six each if n is out of range."""
     n = words[4] if len(words) > 4 and words[4] in range(2, 513) else 3
     return report(words, rows.old_words(rng, 2 * n), rows.old_words(rng, 2 * n))
 

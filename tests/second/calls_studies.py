@@ -27,7 +27,7 @@ def open_lengths(rng: Random) -> Iterator[Call]:
 
 
 def open_wrong_sizes(rng: Random) -> Iterator[Call]:
-    """Buffers of any length with n that is none."""
+    """Buffers of any length with n out of range."""
     for n in rows.WRONG_SIZES:
         for length in (0, 7, 8, 9, 13, 40, 1100):
             yield open_study(n, rows.old_words(rng, length))
@@ -79,7 +79,7 @@ def bases(rng: Random) -> Iterator[Words]:
 
 
 def changed_bases(rng: Random) -> Iterator[Words]:
-    """Small studies with each word changed and at other lengths, and such as have a wrong n."""
+    """Small studies with each word changed and at other lengths, and some with a wrong n."""
     for words in bases(rng):
         yield from studies.each_word_changed(words)
         yield from studies.each_length(words)
@@ -97,7 +97,7 @@ def damaged_studies(rng: Random) -> Iterator[Words]:
 
 
 def too_many(rng: Random) -> Words:
-    """A study with one slot more than there may be, right but for that."""
+    """A study with one slot more than there may be, and right in all else."""
     trees = shapes.runs_equal(rng, 2, MOST_RUNS + 1)
     return studies.study_of(rng, 2, trees, studies.length_for(2, MOST_RUNS + 1))
 
@@ -109,7 +109,7 @@ def beside(identifiers: list[int]) -> list[int]:
 
 
 def add_everywhere(rng: Random) -> Iterator[Call]:
-    """Runs added before, between and behind others, and such as are in force."""
+    """Runs added before, between and after others, and under identifiers in force."""
     for n, k in ((2, 3), (3, 1), (3, 4), (4, 2), (5, 3), (7, 2)):
         words = studies.some_study(rng, n, k)
         for identifier in beside(studies.identifiers(words)):
@@ -165,7 +165,7 @@ def add_to_any(rng: Random, words: Words) -> Call:
 
 
 def withdraw_everywhere(rng: Random) -> Iterator[Call]:
-    """The first run withdrawn, the last, each other, and such as are not in force."""
+    """Every run withdrawn, and identifiers that are not in force."""
     for n in range(2, 12):
         for k in range(5):
             words = studies.some_study(rng, n, k)
@@ -192,7 +192,7 @@ def stored_withdraw(rng: Random) -> Iterator[Call]:
 
 
 def withdraw_from_any(rng: Random, words: Words) -> Call:
-    """A run withdrawn from a study that need not be well formed: the one word 8 names, or not."""
+    """A run withdrawn from a study that need not be well formed: that of word 8, or another."""
     first = words[8] if len(words) > 8 else 5
     return withdraw(words, rng.choice([first, first, 0, 40000]))
 

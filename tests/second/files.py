@@ -49,14 +49,14 @@ def file_of_trees(rng: Random, n: int, trees: list[Tree]) -> bytes:
     return file_of(n, slots_of(rng, n, trees))
 
 
-THE_CASE = file_of(5, [[i] + row for i, row in enumerate(RUNS_OF_5, 1)])  # document 01's 75 bytes
+THE_CASE = file_of(5, [[i] + row for i, row in enumerate(RUNS_OF_5, 1)])  # the 75 bytes of RULES 10
 HALVES = [WITH_01, WITH_02, WITH_02, WITH_01]
 
 # Valid files
 
 
 def specimens() -> Iterator[bytes]:
-    """Document 01's runs: the case, two halves, two of four, three of four, one run."""
+    """The runs of RULES 10: the case, two halves, two of four, three of four, one run."""
     yield THE_CASE
     yield file_of(5, [[i] + row for i, row in zip((65535, 7, 300), RUNS_OF_5)])
     for k in (1, 2, 3, 4):
@@ -84,7 +84,7 @@ def wide(rng: Random) -> Iterator[bytes]:
 
 
 def largest(rng: Random) -> Iterator[bytes]:
-    """As many runs as have room; 65,529 bytes where that comes out even."""
+    """As many runs as there is room for; 65,529 bytes where that comes out exactly."""
     for n, k in ((2, 1024), (3, 1023), (15, 1024), (17, 936), (31, 520), (136, 120), (409, 40)):
         yield file_of_trees(rng, n, shapes.runs_counted(rng, n, k))
     yield file_of_trees(rng, 512, shapes.runs_counted(rng, 512, 31))
@@ -128,7 +128,7 @@ def with_identifiers(rng: Random, n: int, identifiers: list[int]) -> bytes:
 
 
 def too_many(rng: Random) -> Iterator[bytes]:
-    """More than 1,024 slots: 12 at slot 1,024, if that one is not refused before."""
+    """More than 1,024 slots: 12 at slot 1,024, if it is not refused for something else first."""
     for n, k in ((2, 1025), (2, 6552), (3, 1300), (15, 1056)):
         yield file_of_trees(rng, n, shapes.runs_equal(rng, n, k))
     bad = [5, 4, 3, 3, 65535, 3]
@@ -146,13 +146,13 @@ def too_many(rng: Random) -> Iterator[bytes]:
 
 
 def without_slots() -> Iterator[bytes]:
-    """k = 0: 14 where n is one, else 1."""
+    """k = 0: 14 where n is in range, else 1."""
     for n in (0, 1, 2, 3, 4, 256, 511, 512, 513, 514, 32767, 32768, 65534, 65535):
         yield head(n, 0)
 
 
 def wrong_sizes(rng: Random) -> Iterator[bytes]:
-    """n that is none with the length that it asks for."""
+    """n out of range, with the length that it asks for."""
     sizes = [(0, 1), (0, 5), (0, 1025), (0, 32760), (1, 1), (1, 3), (1, 1025), (1, 10920)]
     sizes += [(513, 1), (513, 31), (514, 2), (768, 1), (1024, 3), (16379, 1)]
     for n, k in sizes:
@@ -165,7 +165,7 @@ def wrong_sizes(rng: Random) -> Iterator[bytes]:
 
 
 def wrong_lengths(rng: Random) -> Iterator[bytes]:
-    """The case at every length below its own, and a little over; other files cut or drawn out."""
+    """The case at every length below its own, and a little over; other files cut or made longer."""
     for length in range(len(THE_CASE)):
         yield THE_CASE[:length]
     for over in (b"\0", b"\n", b"\0\0", b"\0" * 22, THE_CASE, b"\0" * 65536):
@@ -282,7 +282,7 @@ def random_identifiers(rng: Random) -> bytes:
 
 
 def random_sizes(rng: Random) -> bytes:
-    """A file without slots, of an n that is none, or of more runs than have room."""
+    """A file without slots, with n out of range, or with more runs than there is room for."""
     n = rng.choice([0, 1, rng.randint(513, 2000), rng.randint(2, 512)])
     if rng.random() < 0.2:
         return file_of_trees(rng, 2, shapes.runs_equal(rng, 2, MOST_RUNS + rng.randint(0, 2)))

@@ -46,7 +46,7 @@ MATERIAL = [
 # Those whose calls are not stored yet: a line moved from here to there stores them.
 LATER: list[Material] = []
 
-SEED = 20250  # with the op's number added, so that no op's calls hang on another's
+SEED = 20250  # with the op's number added, so that no op's calls depend on another's
 
 
 def active() -> list[int]:
@@ -75,7 +75,7 @@ def stored_calls(ops: list[int]) -> Iterator[Call]:
 
 
 def random_calls(rng: Random, ops: list[int], count: int) -> Iterator[Call]:
-    """So many calls of these ops at random."""
+    """This many random calls of these ops."""
     streams = [material.random(rng) for material in material_of(ops)]
     for _ in range(count):
         yield next(rng.choice(streams))

@@ -1,4 +1,4 @@
-"""Makers of test material: rows of trees, rows that are none, words of any kind.
+"""Makers of test material: rows that are trees and rows that are not, words of any kind.
 
 All chance comes from the random.Random handed in, and every list that chance
 picks from has a fixed order, so the same seed makes the same material.
@@ -16,7 +16,7 @@ from shapes import any_tree, bare, binary, caterpillar, few_inner, shuffled
 
 # How many samples
 
-# n that is none, with those among them whose double would be right in 16 bits.
+# n out of range; the doubles of some would be in range in 16 bits.
 WRONG_SIZES = [0, 1, 513, 514, 1024, 32767, 32768, 32770, 65534, 65535]
 
 
@@ -52,13 +52,13 @@ def rows_in_range(n: int, m: int) -> Iterator[Words]:
 
 
 def valid_rows(n: int) -> list[Words]:
-    """Every valid row of so few samples."""
+    """Every valid row of n samples; n has to be small."""
     rows = [row for m in range(n + 1, 2 * n) for row in rows_in_range(n, m)]
     return [row for row in rows if row_refusal(n, row) is None]
 
 
 def every_tree(n: int) -> list[Tree]:
-    """Every tree of so few samples, each once."""
+    """Every tree of n samples, each once; n has to be small."""
     rows = [row_of(n, groups_of(n, row)) for row in valid_rows(n)]
     return [groups_of(n, list(row)) for row in sorted(set(map(tuple, rows)))]
 
@@ -67,7 +67,7 @@ def every_tree(n: int) -> list[Tree]:
 
 
 def old_words(rng: Random, length: int) -> Words:
-    """Words of no meaning, or of some: so much may stand in a buffer that is written to."""
+    """Any words: what a buffer may hold before it is written to."""
     any_words = [rng.randrange(65536) for _ in range(length)]
     same = [rng.choice([0, 1, 7, 256, ROOT])] * length
     return rng.choice([any_words, same])
@@ -193,7 +193,7 @@ def filler_row(rng: Random, n: int) -> Words:
 
 
 def roots_row(rng: Random, n: int) -> Words:
-    """A row of a tree with no root or more than one (for 7)."""
+    """A tree's row changed so that it has no root or more than one (for 7)."""
     row = valid_row(rng, n)
     for v in rng.sample(range(n, row[0]), rng.randint(1, min(3, row[0] - n))):
         row[1 + v] = rng.choice(range(n, row[0])) if row[1 + v] == ROOT else ROOT
@@ -201,7 +201,7 @@ def roots_row(rng: Random, n: int) -> Words:
 
 
 def wild_row(rng: Random, n: int) -> Words:
-    """A row with a fit or unfit m and any words behind it."""
+    """A row with m in range or not, and any words after it."""
     m = rng.choice([rng.randint(n + 1, 2 * n - 1), n, 2 * n, rng.randrange(65536)])
     return [m] + [rng.choice([rng.randrange(n, 2 * n), 0, ROOT]) for _ in range(2 * n - 1)]
 
@@ -232,7 +232,7 @@ def any_row(rng: Random, n: int) -> Words:
 
 
 def wrong_length(rng: Random, row: Words) -> Words:
-    """The words of a row, some dropped from its end or some put there."""
+    """The words of a row, with some taken off its end or some added to it."""
     lengths = [0, 1, len(row) // 2, len(row) - 1, len(row) + 1, len(row) + 2, 2 * len(row)]
     length = rng.choice(lengths)
     return (row + [0] * length)[:length]

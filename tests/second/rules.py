@@ -1,8 +1,8 @@
-"""What each call of document 01 answers, worked out with sets of samples.
+"""What each call answers by docs/RULES.md, worked out with sets of samples.
 
 A call takes lists of 16-bit words and answers number, place, counts and the
 buffers as they stand afterwards. Number 0 means accepted. No list that is
-handed in is ever changed. Lines in quotes are document 01's.
+handed in is ever changed. "RULES 6.4" is a rule of that page.
 """
 
 from __future__ import annotations
@@ -12,16 +12,16 @@ from functools import lru_cache
 from typing import Iterable, NamedTuple, Optional
 
 Words = list[int]
-Group = frozenset[int]  # "a group is never empty"
-Tree = frozenset[Group]  # "The groups of a tree are those of all its nodes."
-Refusal = Optional[tuple[int, int]]  # "A refusal is a number and a place."
+Group = frozenset[int]  # never empty
+Tree = frozenset[Group]  # RULES 3.2
+Refusal = Optional[tuple[int, int]]  # RULES 7.1: number and place
 
-ROOT = 65535  # "65535 means that v is the root"
-LEAST_SAMPLES, MOST_SAMPLES = 2, 512  # "Samples n: 2 to 512"
-MOST_RUNS = 1024  # "Runs in force: at most 1,024."
-MARK = [65, 82, 66]  # "the mark ARB as 65, 82, 66"
-VERSION = 1  # "Word 3 is the version, 1."
-HEADER = 8  # "From word 8 on come k slots"
+ROOT = 65535  # RULES 2.2: the root's word
+LEAST_SAMPLES, MOST_SAMPLES = 2, 512  # RULES 1.1
+MOST_RUNS = 1024  # RULES 1.4
+MARK = [65, 82, 66]  # RULES 6.1
+VERSION = 1  # RULES 6.1
+HEADER = 8  # RULES 6.3: words before the first slot
 
 
 class Answer(NamedTuple):
@@ -49,13 +49,13 @@ def accepted(buffers: list[Words], counts: Optional[tuple[int, int, int]] = None
 
 
 def refused(refusal: tuple[int, int], buffers: list[Words]) -> Answer:
-    """The answer of a refused call: "After a refusal all lent words are unchanged." """
+    """The answer of a refused call, which changes no word (RULES 7.4)."""
     return Answer(*refusal, None, [list(words) for words in buffers])
 
 
 def refuse_if(condition: bool, number: int) -> Refusal:
     """The refusal with this number if the condition holds."""
-    # "The place is 0 unless the table says otherwise."
+    # RULES 7.3: no place is named.
     return (number, 0) if condition else None
 
 
@@ -68,17 +68,17 @@ def refuse_at(places: Iterable[int], number: int) -> Refusal:
 
 
 def size_refusal(n: int) -> Refusal:
-    """1: "n outside 2 to 512 (calls that take n)"."""
+    """1: n breaks RULES 1.1."""
     return refuse_if(not LEAST_SAMPLES <= n <= MOST_SAMPLES, 1)
 
 
 def length_refusal(n: int, *buffers: Words) -> Refusal:
-    """3: "a row or output buffer is not 2n words"."""
+    """3: one of these has a length other than 2n."""
     return refuse_if(any(len(words) != 2 * n for words in buffers), 3)
 
 
 def identifier_refusal(identifier: int) -> Refusal:
-    """4: "identifier 0"."""
+    """4: the identifier is 0."""
     return refuse_if(identifier == 0, 4)
 
 
@@ -86,17 +86,17 @@ def identifier_refusal(identifier: int) -> Refusal:
 
 
 def parent(row: Words, v: int) -> int:
-    """ "Word 1+v is the parent of node v, for v from 0 to m-1" """
+    """The word for node v (RULES 2.2)."""
     return row[1 + v]
 
 
 def inner_nodes(n: int, row: Words) -> range:
-    """ "Inner nodes are n to m-1." """
+    """The inner nodes (RULES 1.2)."""
     return range(n, row[0])
 
 
 def nodes_refusal(n: int, row: Words) -> Refusal:
-    """5: "m outside n+1 to 2n-1"."""
+    """5: m breaks RULES 1.2."""
     return refuse_if(not n + 1 <= row[0] <= 2 * n - 1, 5)
 
 
@@ -108,20 +108,18 @@ def has_fit_parent(n: int, row: Words, v: int) -> bool:
 
 
 def parent_refusal(n: int, row: Words) -> Refusal:
-    """6: "a leaf's parent is not an inner node, or an inner node's is neither that nor 65535"."""
-    # "lowest such node"
+    """6: the lowest node whose parent does not fit."""
     return refuse_at((v for v in range(row[0]) if not has_fit_parent(n, row, v)), 6)
 
 
 def root_refusal(n: int, row: Words) -> Refusal:
-    """7: "the number of inner nodes with parent 65535 is not one"."""
+    """7: there is no root, or more than one."""
     roots = [v for v in inner_nodes(n, row) if parent(row, v) == ROOT]
     return refuse_if(len(roots) != 1, 7)
 
 
 def filler_refusal(n: int, row: Words) -> Refusal:
-    """8: "Words after 1+(m-1) are filler and must be 0."."""
-    # "lowest such word"
+    """8: the lowest word of the filler that is not 0 (RULES 2.3)."""
     return refuse_at((i for i in range(1 + row[0], 2 * n) if row[i] != 0), 8)
 
 
@@ -139,22 +137,20 @@ def reaching_root(row: Words) -> set[int]:
 
 
 def climb_refusal(n: int, row: Words) -> Refusal:
-    """9: "a node from which the parents never reach the root"."""
-    # "lowest such node": any node, leaves among them.
+    """9: the lowest node, of samples and inner nodes, whose way up misses the root."""
     reaching = reaching_root(row)
     return refuse_at((v for v in range(row[0]) if v not in reaching), 9)
 
 
 def children_refusal(n: int, row: Words) -> Refusal:
-    """10: "an inner node with fewer than two children"."""
-    # "lowest such node"
+    """10: the lowest inner node with one child or none."""
     children = Counter(parent(row, v) for v in range(row[0]))
     return refuse_at((v for v in inner_nodes(n, row) if children[v] < 2), 10)
 
 
 def row_refusal(n: int, row: Words) -> Refusal:
     """The first of 5 to 10 that a row of 2n words gives."""
-    # "Checks go in rising order of number"
+    # RULES 7.2: by rising number.
     return (
         nodes_refusal(n, row)
         or parent_refusal(n, row)
@@ -169,7 +165,7 @@ def row_refusal(n: int, row: Words) -> Refusal:
 
 
 def groups_of(n: int, row: Words) -> Tree:
-    """The groups of a valid row: "the set of samples at or below" each node."""
+    """The groups of a valid row, one for each node (RULES 3.1)."""
     below: list[set[int]] = [set() for _ in range(row[0])]
     for sample in range(n):
         v = sample
@@ -180,14 +176,13 @@ def groups_of(n: int, row: Words) -> Tree:
 
 
 def agree(one: Group, other: Group) -> bool:
-    """ "Two groups agree if one contains the other or they share no sample" """
+    """Whether two groups are in agreement (RULES 3.4)."""
     return one <= other or other <= one or not one & other
 
 
 def standard_order(tree: Tree) -> list[Group]:
     """The groups of a tree's inner nodes in standard numbering."""
-    # "Inner nodes are numbered from n by falling group size, and where sizes
-    # are equal by rising smallest sample."
+    # RULES 4.1: larger groups first; of equal sizes, the one with the smaller smallest sample.
     inner = (group for group in tree if len(group) > 1)
     return sorted(inner, key=lambda group: (-len(group), min(group)))
 
@@ -213,7 +208,7 @@ def row_of(n: int, tree: Tree) -> Words:
 
 
 def filled(n: int, words: Words) -> Words:
-    """These words with filler behind them, 2n in all."""
+    """These words with filler after them, 2n in all."""
     return words + [0] * (2 * n - len(words))
 
 
@@ -221,30 +216,28 @@ def filled(n: int, words: Words) -> Words:
 
 
 def judge(n: int, row: Words) -> Answer:
-    """Whether a row is valid: "Judging a row writes nothing." """
+    """Whether a row is valid; nothing is written (RULES 7.6)."""
     refusal = size_refusal(n) or length_refusal(n, row) or row_refusal(n, row)
     return refused(refusal, [row]) if refusal else accepted([row])
 
 
 def renumber(n: int, row: Words, out: Words) -> Answer:
-    """ "Renumbering reads one buffer and writes another." """
+    """A row in standard numbering (RULES 4.4), written to another buffer."""
     refusal = size_refusal(n) or length_refusal(n, row, out) or row_refusal(n, row)
     if refusal:
         return refused(refusal, [row, out])
-    # "Renumbering writes this row": the one in standard numbering.
     return accepted([row, row_of(n, groups_of(n, row))])
 
 
 def second_refusal(n: int, row: Words) -> Refusal:
-    """The refusal of comparing's second row, "whose places have 2n added"."""
+    """The refusal of comparing's second row, with 2n added to the place (RULES 7.7)."""
     refusal = row_refusal(n, row)
     return refusal and (refusal[0], refusal[1] + 2 * n)
 
 
 def compare(n: int, first: Words, second: Words) -> Answer:
-    """How many groups are in both rows, only in the first, only in the second."""
-    # "Comparing checks 1, then 3, then 5 to 10 for the first row, then 5 to
-    # 10 for the second, whose places have 2n added."
+    """Counts of groups: those of both rows, of the first alone, of the second alone (RULES 8.1)."""
+    # RULES 7.7: n, both lengths, all of the first row, all of the second.
     refusal = (
         size_refusal(n)
         or length_refusal(n, first, second)
@@ -253,7 +246,7 @@ def compare(n: int, first: Words, second: Words) -> Answer:
     )
     if refusal:
         return refused(refusal, [first, second])
-    # "All groups count, single samples and the whole included."
+    # RULES 8.2: trivial groups too.
     one, other = groups_of(n, first), groups_of(n, second)
     return accepted([first, second], (len(one & other), len(one - other), len(other - one)))
 
@@ -262,14 +255,12 @@ def compare(n: int, first: Words, second: Words) -> Answer:
 
 
 def slot_width(n: int) -> int:
-    """ "slots of 2n+1 words: identifier, then the row" """
+    """How many words a slot has (RULES 6.3)."""
     return 2 * n + 1
 
 
 def capacity(length: int, n: int) -> int:
-    """How many runs a study of this many words can hold."""
-    # "Capacity is the smaller of 1,024 and (length - 8) divided by (2n+1),
-    # rounded down; below 8 words it is 0."
+    """How many runs a study of this many words can hold (RULES 6.6)."""
     if length < HEADER:
         return 0
     return min(MOST_RUNS, (length - HEADER) // slot_width(n))
@@ -277,12 +268,12 @@ def capacity(length: int, n: int) -> int:
 
 def write_study(length: int, study: Study) -> Words:
     """The words of a study, as many as asked for."""
-    # "Word 4 is n, word 5 is k, words 6 and 7 are 0."
+    # RULES 6.1 and 6.2.
     words = MARK + [VERSION, study.n, len(study.runs), 0, 0]
-    # "Slots stand in rising order of identifier."
+    # RULES 6.4: lowest identifier first.
     for identifier in sorted(study.runs):
         words += [identifier] + row_of(study.n, study.runs[identifier])
-    # "All later words are 0."
+    # RULES 6.5: 0 to the end.
     return words + [0] * (length - len(words))
 
 
@@ -291,10 +282,10 @@ def has_header(words: Words) -> bool:
     if len(words) < HEADER or words[:4] != MARK + [VERSION] or words[6:8] != [0, 0]:
         return False
     n, k = words[4], words[5]
-    # "n, k and the identifiers are within the sizes above"
+    # RULES 1.1 and 1.4.
     if size_refusal(n) or k > MOST_RUNS:
         return False
-    # "capacity is at least 1 and at least k"
+    # RULES 6.7: there is room for one run, and for k.
     return capacity(len(words), n) >= max(1, k)
 
 
@@ -314,16 +305,16 @@ def has_identifiers(identifiers: list[int]) -> bool:
 
 
 def read_study(words: Words) -> Optional[Study]:
-    """The study in these words, or None: "A study is well formed exactly if all this holds"."""
+    """The study in these words, or None if they are not well formed (RULES 6.7)."""
     if not has_header(words):
         return None
     n, k = words[4], words[5]
     width, end = slot_width(n), HEADER + k * slot_width(n)
     slots = [words[start : start + width] for start in range(HEADER, end, width)]
-    # "All later words are 0."
+    # RULES 6.5: 0 to the end.
     if any(words[end:]) or not has_identifiers([slot[0] for slot in slots]):
         return None
-    # "identifier, then the row in standard numbering"; "each row is valid"
+    # RULES 6.3 and 6.7: valid rows, in standard numbering.
     trees = [standard_tree(n, tuple(slot[1:])) for slot in slots]
     if None in trees:
         return None
@@ -334,8 +325,8 @@ def read_study(words: Words) -> Optional[Study]:
 
 
 def open_study(n: int, words: Words) -> Answer:
-    """ "Opening needs capacity 1 and leaves k = 0." """
-    # 3: "at opening, capacity is below 1"
+    """A study without runs, if there is room for one (RULES 6.8)."""
+    # 3: there is no room for a run.
     refusal = size_refusal(n) or refuse_if(capacity(len(words), n) < 1, 3)
     if refusal:
         return refused(refusal, [words])
@@ -343,14 +334,14 @@ def open_study(n: int, words: Words) -> Answer:
 
 
 def run_refusal(study: Study, room: int, identifier: int, row: Words) -> Refusal:
-    """The first of 3 to 12 that a study with room for so many runs gives to one more."""
+    """The first of 3 to 12 that a study with this much room gives to one run more."""
     return (
         length_refusal(study.n, row)
         or identifier_refusal(identifier)
         or row_refusal(study.n, row)
-        # 11: "add: identifier already in force"
+        # 11: a run in force has it.
         or refuse_if(identifier in study.runs, 11)
-        # 12: "add: k equals capacity"
+        # 12: the study is full.
         or refuse_if(len(study.runs) == room, 12)
     )
 
@@ -358,7 +349,7 @@ def run_refusal(study: Study, room: int, identifier: int, row: Words) -> Refusal
 def add(words: Words, identifier: int, row: Words) -> Answer:
     """A run is put into the study."""
     study = read_study(words)
-    if study is None:  # 2: "the study handed in is not well formed"
+    if study is None:  # 2: not well formed
         return refused((2, 0), [words, row])
     refusal = run_refusal(study, capacity(len(words), study.n), identifier, row)
     if refusal:
@@ -370,10 +361,10 @@ def add(words: Words, identifier: int, row: Words) -> Answer:
 def withdraw(words: Words, identifier: int) -> Answer:
     """A run is taken out of the study."""
     study = read_study(words)
-    if study is None:  # 2: "the study handed in is not well formed"
+    if study is None:  # 2: not well formed
         return refused((2, 0), [words])
     n, runs = study
-    # 13: "withdraw: identifier not in force"
+    # 13: no run in force has it.
     refusal = identifier_refusal(identifier) or refuse_if(identifier not in runs, 13)
     if refusal:
         return refused(refusal, [words])
@@ -382,9 +373,9 @@ def withdraw(words: Words, identifier: int) -> Answer:
 
 
 def report(words: Words, agreed: Words, support: Words) -> Answer:
-    """ "The report writes two buffers of 2n words: the agreed row, and the support row." """
+    """The agreed row and the support row, written to two buffers (RULES 5.4 and 5.5)."""
     study = read_study(words)
-    if study is None:  # 2: "the study handed in is not well formed"
+    if study is None:  # 2: not well formed
         return refused((2, 0), [words, agreed, support])
     refusal = length_refusal(study.n, agreed, support) or empty_refusal(study)
     if refusal:
@@ -393,7 +384,7 @@ def report(words: Words, agreed: Words, support: Words) -> Answer:
 
 
 def empty_refusal(study: Study) -> Refusal:
-    """14: "report: k is 0"."""
+    """14: no run is in force."""
     return refuse_if(len(study.runs) == 0, 14)
 
 
@@ -412,14 +403,12 @@ def holders_of(runs: dict[int, Tree]) -> Counter[Group]:
 
 def majority(holders: Counter[Group], k: int) -> Tree:
     """The groups of the agreed tree."""
-    # "a group is in the agreed tree exactly when twice the number of runs
-    # holding it is greater than k. Exactly half is too few."
+    # RULES 5.1 and 5.2: half is not enough.
     return frozenset(group for group, held in holders.items() if 2 * held > k)
 
 
 def support_row(n: int, tree: Tree, holders: Counter[Group], k: int) -> Words:
     """The support of each node of a tree in standard numbering."""
-    # "In the support row word 0 is k, word 1+v is the number of runs holding
-    # the group of node v, and filler is 0."
+    # RULES 5.5: k, then a count for each node.
     nodes = nodes_of(n, standard_order(tree))
     return filled(n, [k] + [holders[group] for group in nodes])

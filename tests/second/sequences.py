@@ -1,8 +1,8 @@
 """Calls on studies, and sequences of them.
 
 A sequence is kept as single calls, each with the whole study before it: the
-study after one call is the study before the next, but where a call is tried on
-a damaged copy. So each op can take its own calls out of the sequences.
+study after one call is the study before the next, except where a call is tried
+on a damaged copy. So each op can take its own calls out of the sequences.
 """
 
 from __future__ import annotations
@@ -43,7 +43,7 @@ def report(words: Words, agreed: Words, support: Words) -> Call:
 
 
 def next_open(rng: Random, words: Words, pool: list[int]) -> Call:
-    """The study opened again, with the same n, another or none."""
+    """The study opened again, with the same n, another one or one out of range."""
     n = words[4]
     return open_study(rng.choice([n, n + 1, max(2, n - 1), 2, 512, *rows.WRONG_SIZES]), words)
 
@@ -83,7 +83,7 @@ def on_damaged_copy(rng: Random, call: Call) -> Call:
 
 
 def sequence(rng: Random, n: int, slots: int, steps: int) -> Iterator[Call]:
-    """A study opened with room for so many runs, and so many calls on it."""
+    """A study opened with room for this many runs, and this many calls on it."""
     pool = studies.some_identifiers(rng, slots + 3)
     length = studies.length_for(n, slots) + rng.choice([0, 0, 1, 2 * n])
     opening = open_study(n, rows.old_words(rng, length))
@@ -130,26 +130,24 @@ def reports() -> Callable[[Words], Call]:
 
 
 def specimens() -> Iterator[Call]:
-    """What document 01 says of studies, in so many calls."""
-    # "Identifier 65,535 is taken."
+    """The specimens of studies in section 10 of docs/RULES.md, call by call."""
+    # RULES 10.8: the largest identifier.
     yield from played([9] * 20, [opens(2), adds(65535, ONLY_TREE_OF_2), adds(0, ONLY_TREE_OF_2)])
-    # "Withdrawing the last run and reporting gives 14. Adding an identifier
-    # again after its withdrawal, with another tree, is allowed."
+    # RULES 10.10: the last run is withdrawn, and its identifier comes back.
     first = [opens(3), reports(), adds(1, WITH_01), reports(), withdraws(1), withdraws(1)]
     again = [reports(), adds(1, WITH_02), adds(1, WITH_01), reports(), withdraws(2)]
     yield from played([9] * 30, first + again)
-    # "n=3, two runs holding {0,1} and {0,2}"; "A group in 2 of 4 runs stays
-    # out; in 3 of 4 it is in."
+    # RULES 10.5 and 10.7: one of two, two of four, three of four.
     four = [adds(i, row) for i, row in enumerate([WITH_01, WITH_02, WITH_02, WITH_01], 1)]
     yield from played([9] * 40, [opens(3), *four[:2], reports(), *four[2:], reports()])
     yield from played([9] * 40, [opens(3), four[0], *four[2:], adds(9, WITH_01), reports()])
-    # The three runs of the listing.
+    # RULES 10.1.
     three = [adds(i, row) for i, row in enumerate(RUNS_OF_5, 1)]
     yield from played([9] * 50, [opens(5), *three, reports(), withdraws(2), reports()])
 
 
 def crowded(rng: Random, over: int) -> Iterator[Call]:
-    """ "The 1,025th run gives 12; after a withdrawal it is taken." """
+    """RULES 10.9: run number 1,025 is refused, and taken when there is room."""
     words = studies.nearly_full(rng, 2, MOST_RUNS - 1, over)
     lowest, *_, highest = studies.identifiers(words)
     first, last, other = (adds(identifier, ONLY_TREE_OF_2) for identifier in (1, 65535, 40000))

@@ -20,7 +20,7 @@ def shuffled(rng: Random, items: list) -> list:
 
 
 def cut(rng: Random, block: list[int], parts: int) -> list[list[int]]:
-    """The block cut into so many parts, none empty."""
+    """The block cut into this many parts, none empty."""
     cuts = sorted(rng.sample(range(1, len(block)), parts - 1))
     return [block[start:end] for start, end in zip([0] + cuts, cuts + [len(block)])]
 
@@ -146,7 +146,7 @@ def one_move(rng: Random, n: int, tree: Tree) -> Tree:
 
 
 def near(rng: Random, n: int, tree: Tree, moves: int) -> Tree:
-    """A tree at most so many moves away."""
+    """A tree at most this many moves away."""
     for _ in range(rng.randint(0, moves)):
         tree = one_move(rng, n, tree)
     return tree
@@ -158,7 +158,7 @@ def near(rng: Random, n: int, tree: Tree, moves: int) -> Tree:
 def runs_near(rng: Random, n: int, k: int) -> list[Tree]:
     """The trees of k runs that differ a little from a common tree."""
     common = any_tree(rng, n)
-    # With so many moves about half of the common tree's groups are in most runs.
+    # With this many moves about half of the common tree's groups are in most runs.
     moves = min(24, 3 + n // 5)
     return [near(rng, n, common, moves) for _ in range(k)]
 

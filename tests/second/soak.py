@@ -5,8 +5,8 @@ python3 soak.py --files N --seed S --listing "PROGRAM ARGUMENT..."
 
 The first program reads requests on standard input and writes replies on
 standard output; the second, the listing program, reads a file and writes its
-listing. Both may be named at once. On the first difference the call or the
-file is shown and the status is 1.
+listing. Both may be named at once. If all agree the last line says so. At the
+first difference the call or the file is shown and the status is 1.
 """
 
 from __future__ import annotations
@@ -41,8 +41,11 @@ from material import active, known_ops, random_calls  # noqa: E402
 from rules import Words  # noqa: E402
 
 
+LISTING = "listing"  # what the files are counted under
+
+
 class Difference(Exception):
-    """What a program did otherwise than the rules."""
+    """What a program did that the rules do not say."""
 
 
 def run(program: list[str], data: bytes) -> tuple[int, bytes]:
@@ -69,7 +72,7 @@ def shown(words: Words) -> str:
 
 
 def shown_reply(words: Words) -> str:
-    """A reply in a line, its head parted from its buffers."""
+    """A reply in a line, a bar between its head and its buffers."""
     return f"{shown(words[:HEAD])} | {shown(words[HEAD:])}"
 
 
@@ -109,7 +112,7 @@ def soak_calls(program: list[str], calls: Iterator[Call], batch: int) -> Counts:
 
 
 def ended_by_signal(status: int) -> bool:
-    """Whether a program with this status was ended by a signal, itself or behind a shell."""
+    """Whether a program with this status was ended by a signal, started directly or by a shell."""
     return status < 0 or status >= 128
 
 
@@ -123,12 +126,19 @@ def soak_files(program: list[str], rng: Random, files: int) -> Counts:
         if came != expected or ended_by_signal(status):
             shown_file = f"file      {data.hex()}\nexpected  {expected!r}\ncame      {came!r}"
             raise Difference(f"{shown_file}\nstatus    {status}")
-        counts["listing", number_in(expected)] += 1
+        counts[LISTING, number_in(expected)] += 1
     return counts
 
 
+def agreement(counts: Counts) -> str:
+    """That all of these agreed, in words."""
+    files = sum(count for (name, _), count in counts.items() if name == LISTING)
+    calls = sum(counts.values()) - files
+    return f"all {calls} calls and {files} files agree with the second program"
+
+
 def soak(options: argparse.Namespace) -> Counts:
-    """Runs what the command line names."""
+    """Runs what the command line names, up to the first difference."""
     counts: Counts = Counter()
     if options.program:
         calls = random_calls(Random(options.seed), options.ops, options.calls)
@@ -143,7 +153,7 @@ def main() -> int:
     parser = argparse.ArgumentParser(description="Random calls and files, held against the rules.")
     parser.add_argument("--calls", type=int, default=10000)
     parser.add_argument("--seed", type=int, default=1)
-    parser.add_argument("--ops", type=known_ops, default=active(), help="numbers parted by commas")
+    parser.add_argument("--ops", type=known_ops, default=active(), help="such as 5,6")
     parser.add_argument("--batch", type=int, default=2000, help="calls in one run of the program")
     parser.add_argument("--files", type=int, default=1000)
     parser.add_argument("--listing", type=shlex.split, help="the listing program, in one word")
@@ -157,6 +167,7 @@ def main() -> int:
         print(found)
         return 1
     print(table(counts))
+    print(agreement(counts))
     return 0
 
 

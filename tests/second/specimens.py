@@ -1,13 +1,13 @@
-"""The rows that document 01 names."""
+"""The rows that section 10 of docs/RULES.md names."""
 
 from __future__ import annotations
 
 from rules import ROOT
 
-# "n=2: 3 2 2 65535 is valid. It is the only tree."
+# RULES 10.2.
 ONLY_TREE_OF_2 = [3, 2, 2, ROOT]
 
-# Its rows of n=3, valid and not.
+# RULES 10.3 and 10.4: rows of three samples, valid and not.
 ROWS_OF_3 = [
     [5, 4, 4, 3, ROOT, 3],
     [5, 3, 3, 4, 4, ROOT],
@@ -21,12 +21,12 @@ ROWS_OF_3 = [
     [6, 4, 4, 3, ROOT, 3],
 ]
 
-# "n=3, two runs holding {0,1} and {0,2}", and the tree that they agree on.
+# RULES 10.5: a run with {0,1}, one with {0,2}, and their report.
 WITH_01 = [5, 4, 4, 3, ROOT, 3]
 WITH_02 = [5, 4, 3, 4, ROOT, 3]
 BARE_3 = [4, 3, 3, 3, ROOT, 0]
 
-# The three runs of the listing.
+# The three runs of the table.
 RUNS_OF_5 = [
     [8, 7, 7, 6, 5, 5, ROOT, 5, 6, 0],
     [8, 6, 6, 6, 7, 7, ROOT, 5, 5, 0],

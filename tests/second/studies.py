@@ -20,19 +20,19 @@ BOUNDS = [1, 2, 255, 256, 257, 32767, 32768, 65534, 65535]  # identifiers
 
 
 def some_identifiers(rng: Random, count: int) -> list[int]:
-    """So many different identifiers in some order, about half of them at bounds if they are few."""
+    """This many identifiers, all different, in some order; if they are few, half are at bounds."""
     bounds = rng.sample(BOUNDS, min(len(BOUNDS), (count + 1) // 2))
     between = rng.sample(range(300, 30000), count - len(bounds))
     return shapes.shuffled(rng, bounds + between)
 
 
 def length_for(n: int, slots: int) -> int:
-    """How many words a study of just so many slots has."""
+    """How many words a study of exactly this many slots has."""
     return HEADER + slots * slot_width(n)
 
 
 def study_of(rng: Random, n: int, trees: list[Tree], length: int) -> Words:
-    """A study of so many words that holds these trees under any identifiers."""
+    """A study of this many words that holds these trees under any identifiers."""
     runs = dict(zip(some_identifiers(rng, len(trees)), trees))
     return write_study(length, Study(n, runs))
 
@@ -49,7 +49,7 @@ def some_study(rng: Random, n: int, k: int) -> Words:
 
 
 def nearly_full(rng: Random, n: int, k: int, over: int) -> Words:
-    """A study with k runs, none at a bound, room for one more slot, and so many words over."""
+    """A study with k runs, none at a bound, room for one more slot, and this many words over."""
     trees = shapes.runs_counted(rng, n, k)
     runs = dict(zip(rng.sample(range(300, 30000), k), trees))
     return write_study(length_for(n, k + 1) + over, Study(n, runs))
@@ -131,7 +131,7 @@ def with_other_numbering(rng: Random, words: Words) -> Words:
 
 
 def with_words_behind(rng: Random, words: Words) -> Words:
-    """A word behind the last slot that is not 0, if there is room for one."""
+    """A word after the last slot that is not 0, if there is room for one."""
     end = length_for(words[4], words[5])
     behind = range(end, len(words))
     if not behind:
@@ -173,7 +173,7 @@ def each_word_changed(words: Words) -> Iterator[Words]:
 
 
 def wrong_sizes(rng: Random) -> Iterator[Words]:
-    """Studies that are right but for n: without runs, and with slots as wide as n asks for."""
+    """Studies with a wrong n and all else right: without runs, and with slots as wide as n asks."""
     for n in (0, 1, 513, 514):
         yield write_study(length_for(n, 1), Study(n, {}))
         yield write_study(length_for(n, 3) + 1, Study(n, {}))
@@ -182,7 +182,7 @@ def wrong_sizes(rng: Random) -> Iterator[Words]:
 
 
 def each_length(words: Words) -> Iterator[Words]:
-    """The study at lengths 0 to 8 and around each slot's end, up to two slots behind its runs."""
+    """The study at lengths 0 to 8 and around each slot's end, up to two slots after its runs."""
     n, k = words[4], words[5]
     ends = [length_for(n, slots) + over for slots in range(k + 3) for over in (-1, 0, 1)]
     for length in [*range(HEADER), *ends]:

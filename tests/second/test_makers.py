@@ -1,4 +1,4 @@
-"""Holds the makers of test material against the rules; test_rules.py runs these tests too."""
+"""Holds the makers of test material against rules.py; test_rules.py runs these tests too."""
 
 from __future__ import annotations
 

@@ -1,4 +1,4 @@
-"""Holds the rules against every specimen of document 01, and the makers against the rules.
+"""Holds rules.py against every specimen of docs/RULES.md, and the makers against rules.py.
 
 python3 test_rules.py
 """
@@ -77,14 +77,14 @@ def refusal_leaves_all(answer: rules.Answer, number: int, place: int, *buffers: 
 
 
 def test_only_tree_of_two() -> None:
-    """ "n=2: 3 2 2 65535 is valid. It is the only tree." """
+    """RULES 10.2: two samples have one tree."""
     words = [0, 1, 2, 3, 4, ROOT]
     valid = [list(row) for row in product(words, repeat=4) if rules.judge(2, list(row)).number == 0]
     assert valid == [ONLY_TREE_OF_2]
 
 
 def test_same_tree_renumbers() -> None:
-    """ "5 4 4 3 65535 3 is valid; 5 3 3 4 4 65535 is the same tree and renumbers to it" """
+    """RULES 10.3: one tree in two numberings."""
     assert verdict(rules.judge(3, WITH_01)) == (0, 0)
     other = [5, 3, 3, 4, 4, ROOT]
     assert rules.groups_of(3, other) == rules.groups_of(3, WITH_01)
@@ -93,7 +93,7 @@ def test_same_tree_renumbers() -> None:
 
 
 def test_specimens_of_three() -> None:
-    """The specimen rows of n=3 that judging answers."""
+    """RULES 10.4: rows of three samples, judged."""
     refusal_leaves_all(rules.judge(3, [4, 3, 3, 3, ROOT, 7]), 8, 5, [4, 3, 3, 3, ROOT, 7])
     assert verdict(rules.judge(3, BARE_3)) == (0, 0)
     assert verdict(rules.judge(3, [5, 3, 3, 3, ROOT, 4])) == (9, 4)
@@ -103,13 +103,13 @@ def test_specimens_of_three() -> None:
 
 
 def test_nodes_of_three_or_six() -> None:
-    """ "m of 3 or 6 gives 5", whatever the other words."""
+    """RULES 10.4: a first word of 3 or 6, whatever the others are."""
     for m, *rest in product([3, 6], *[[0, 3, 4, ROOT]] * 5):
         assert verdict(rules.judge(3, [m, *rest])) == (5, 0)
 
 
 def test_sizes() -> None:
-    """ "n of 1 and 513 give 1; 2 and 512 are taken." """
+    """RULES 10.8: the bounds of n."""
     for n in (0, 1, 513, 65535):
         refusal_leaves_all(rules.judge(n, [3] * 4), 1, 0, [3] * 4)
         refusal_leaves_all(rules.judge(n, []), 1, 0, [])
@@ -123,14 +123,14 @@ def test_sizes() -> None:
 
 
 def test_comparing() -> None:
-    """ "Comparing runs 1 and 2: 7 in both, 1, 1." """
+    """RULES 10.6: run 1 against run 2, and others."""
     assert rules.compare(5, RUN_1, RUN_2) == (0, 0, (7, 1, 1), [RUN_1, RUN_2])
     assert rules.compare(5, RUN_3, RUN_1).counts == (7, 2, 1)
     assert rules.compare(5, RUN_2, RUN_2).counts == (8, 0, 0)
 
 
 def test_places_of_second_row() -> None:
-    """Every place of the second row has 2n added; the first row goes before it."""
+    """RULES 7.7: 2n is added to every place of the second row; the first row is checked first."""
     for number, place, row in ROWS_REFUSED:
         refusal_leaves_all(rules.compare(3, row, BARE_3), number, place, row, BARE_3)
         refusal_leaves_all(rules.compare(3, BARE_3, row), number, place + 6, BARE_3, row)
@@ -156,7 +156,7 @@ ROWS_REFUSED = [
 
 
 def test_lengths() -> None:
-    """3 for every row and output that is not 2n words."""
+    """3 for every row and every output of a length other than 2n."""
     for wrong in ([], [5], [0] * 5, [0] * 7):
         refusal_leaves_all(rules.judge(3, wrong), 3, 0, wrong)
         refusal_leaves_all(rules.renumber(3, WITH_01, wrong), 3, 0, WITH_01, wrong)
@@ -172,7 +172,7 @@ def test_lengths() -> None:
 
 
 def test_three_runs() -> None:
-    """The three runs of the listing and their report."""
+    """RULES 10.1: the report of the three runs."""
     agreed, support = reported(study_of(5, [RUN_1, RUN_2, RUN_3]), 5)
     assert agreed == [9, 7, 7, 6, 8, 8, ROOT, 5, 6, 5]
     assert support == [3, 3, 3, 3, 3, 3, 3, 2, 2, 2]
@@ -186,12 +186,12 @@ def test_groups_of_three_runs() -> None:
 
 
 def test_half_is_too_few() -> None:
-    """ "n=3, two runs holding {0,1} and {0,2}": the bare tree."""
+    """RULES 10.5: one of two runs is not enough."""
     assert reported(study_of(3, [WITH_01, WITH_02]), 3) == [BARE_3, [2, 2, 2, 2, 2, 0]]
 
 
 def test_halves_and_three_of_four() -> None:
-    """ "A group in 2 of 4 runs stays out; in 3 of 4 it is in." """
+    """RULES 10.7: two of four, and three of four."""
     two_of_four = study_of(3, [WITH_01, WITH_02, WITH_01, WITH_02])
     assert reported(two_of_four, 3) == [BARE_3, [4, 4, 4, 4, 4, 0]]
     three_of_four = study_of(3, [WITH_01, WITH_02, WITH_01, WITH_01])
@@ -199,7 +199,7 @@ def test_halves_and_three_of_four() -> None:
 
 
 def test_one_run_is_reported() -> None:
-    """ "With k = 1 the run itself is reported." """
+    """RULES 10.7: a single run is its own report."""
     for row in (RUN_1, RUN_2, RUN_3):
         agreed, support = reported(study_of(5, [row]), 5)
         assert agreed == rules.renumber(5, row, [0] * 10).buffers[1]
@@ -207,13 +207,13 @@ def test_one_run_is_reported() -> None:
 
 
 def test_largest_identifier() -> None:
-    """ "Identifier 65,535 is taken." """
+    """RULES 10.8: the largest identifier."""
     words = added(opened(2, 20), 65535, ONLY_TREE_OF_2)
     assert words == [65, 82, 66, 1, 2, 1, 0, 0, 65535, 3, 2, 2, ROOT] + [0] * 7
 
 
 def test_run_1025() -> None:
-    """ "The 1,025th run gives 12; after a withdrawal it is taken." """
+    """RULES 10.9: run number 1,025 is refused, and taken when there is room."""
     tree = rules.groups_of(2, ONLY_TREE_OF_2)
     runs = {identifier: tree for identifier in range(1, 1024)}
     for length in (8 + 1024 * 5, 8 + 1030 * 5):
@@ -225,14 +225,14 @@ def test_run_1025() -> None:
 
 
 def test_last_run_withdrawn() -> None:
-    """ "Withdrawing the last run and reporting gives 14." """
+    """RULES 10.10: no report once the last run is withdrawn."""
     words = withdrawn(study_of(3, [WITH_01]), 1)
     assert words == opened(3, 300)
     refusal_leaves_all(rules.report(words, [1] * 6, [2] * 6), 14, 0, words, [1] * 6, [2] * 6)
 
 
 def test_added_again() -> None:
-    """ "Adding an identifier again after its withdrawal, with another tree, is allowed." """
+    """RULES 10.10: a withdrawn identifier comes back with a new tree."""
     words = added(withdrawn(study_of(3, [WITH_01]), 1), 1, WITH_02)
     assert words == study_of(3, [WITH_02])
     assert reported(words, 3)[0] == WITH_02
@@ -242,14 +242,14 @@ def test_added_again() -> None:
 
 
 def test_opening() -> None:
-    """ "Opening needs capacity 1 and leaves k = 0." """
+    """RULES 6.8: a study without runs, or 3 where no run has room."""
     assert opened(3, 15) == [65, 82, 66, 1, 3, 0, 0, 0] + [0] * 7
     for length in (0, 7, 8, 14):
         refusal_leaves_all(rules.open_study(3, [4] * length), 3, 0, [4] * length)
 
 
 def test_capacity() -> None:
-    """ "Capacity is the smaller of 1,024 and (length - 8) divided by (2n+1), rounded down" """
+    """RULES 6.6: how many runs there is room for."""
     for length, runs in ((0, 0), (7, 0), (8, 0), (12, 0), (13, 1), (17, 1), (18, 2), (5127, 1023)):
         assert rules.capacity(length, 2) == runs
     assert rules.capacity(32768, 2) == 1024 and rules.capacity(32768, 512) == 31
@@ -309,7 +309,7 @@ def sets_of_samples(n: int) -> list[frozenset[int]]:
 
 
 def test_the_case() -> None:
-    """The 75 bytes of document 01's case, and its whole output."""
+    """The 75 bytes of RULES 10, and their whole listing."""
     assert len(files.THE_CASE) == 75
     assert files.THE_CASE[:13] == b"ARB\1\0\5\0\3\0\1\0\x08\0"
     lines = ["ARB 1 5 3", "5 - 3 0 1 2 3 4", "6 5 2 0 1 2", "7 6 2 0 1", "8 5 2 3 4"]
@@ -327,7 +327,7 @@ def test_small_listings() -> None:
 
 
 def test_bad_files() -> None:
-    """15 for lengths, marks and versions, before all others."""
+    """RULES 9.3: 15 for lengths, marks and versions, before any other number."""
     for length in range(75):
         assert listed(files.THE_CASE[:length]) == b"refused 15 0 0\n"
     others = [files.THE_CASE + b"\0", b"ARC" + files.THE_CASE[3:]]
@@ -370,7 +370,7 @@ def test_more_slots_than_runs() -> None:
 
 
 def test_listing_is_the_calls() -> None:
-    """ "It opens a study of 32,768 words, adds the slots in file order and reports." """
+    """RULES 9.2: what is listed is what the calls answer."""
     rng = Random(4)
     for _ in range(150):
         n = rng.randint(2, 7)

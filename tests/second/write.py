@@ -5,7 +5,7 @@ python3 write.py --check FOLDER    fails if they are not byte for byte what it w
                                    or if a number that a call can give comes too seldom
 python3 write.py --count           counts the calls by op and number, and the bytes by op
 
-With --ops 5,6,7 it does so for these ops, whether they are stored by now or not.
+With --ops 5,6,7 it does so for these ops, whether they are stored or not.
 """
 
 from __future__ import annotations
@@ -107,7 +107,7 @@ def main() -> int:
     parser.add_argument("folder", type=Path, nargs="?", help="where stdin and stdout stand")
     parser.add_argument("--check", action="store_true", help="write nothing, compare")
     parser.add_argument("--count", action="store_true", help="count the calls by op and number")
-    parser.add_argument("--ops", type=known_ops, default=active(), help="numbers parted by commas")
+    parser.add_argument("--ops", type=known_ops, default=active(), help="such as 5,6")
     options = parser.parse_args()
     if options.count:
         count(options.ops)
