@@ -2,7 +2,7 @@
 use Prim.Native.Nat.{ℕ}
 use mathlib.Core.Path.{_≡_, sym, ap, _∙_}
 use mathlib.Core.List.{List}
-use Rattle.trees.specs.Checks.{Verdict, judged}
+use Rattle.trees.specs.Checks.{judged}
 use Rattle.trees.specs.Outcomes.{Outcome}
 use Rattle.trees.specs.RowCalls.{renumbering, comparing}
 use Rattle.trees.specs.Reporting.{majority}

@@ -1,6 +1,6 @@
 -- Each specimen of the table holds of the calls' own definitions (RULES 10). Assumes nothing.
 use Prim.Native.Nat.{ℕ, _≤_, _<_}
-use mathlib.Core.Path.{_≡_, refl, sym, ap, _∙_}
+use mathlib.Core.Path.{_≡_, refl, ap, _∙_}
 use mathlib.Core.List.{List, [], _∷_, List·Memᴰ, List·Memᴰ·head, List·Memᴰ·tail}
 use mathlib.Core.Bool.{Bool, true, _&&_, cond}
 use native.Mathlib.Omega.{arith}
@@ -11,11 +11,11 @@ use Rattle.trees.specs.Lists.{tabulate, filter, first, weigh}
 use Rattle.trees.specs.Groups.{size, lowest, same, listFirst, before, member}
 use Rattle.trees.specs.Rows.{nodes, parent, meets, ends, groupAt, groups}
 use Rattle.trees.specs.Checks.{Verdict, accepted, refused, _⊳_, rowWords, outside, rowChecks, judgeChecks, judged}
-use Rattle.trees.specs.Valid.{Valid, isAccepted}
+use Rattle.trees.specs.Valid.{isAccepted}
 use Rattle.trees.specs.Numbering.{enter, ordered, groupSet, lastWith, parents, rowOf, renumbered}
 use Rattle.trees.specs.Comparing.{compared}
 use Rattle.trees.specs.Outcomes.{Outcome}
-use Rattle.trees.specs.RowCalls.{renumberChecks, renumbering, compareChecks, comparing}
+use Rattle.trees.specs.RowCalls.{renumbering, compareChecks, comparing}
 use Rattle.trees.specs.Reporting.{Run, majority, support, total, held, shown, agreed, supports}
 use Rattle.trees.specs.BoolLaws.{and-l, and-r}
 use Rattle.trees.specs.ValidLaws.{accepted-to, judged-valid, only-two, nodes-refused}
@@ -24,7 +24,7 @@ use Rattle.runs.specs.Runs.{every, find, insertRun}
 use Rattle.runs.specs.Words.{samples, inForce, runs, slots, encode, capacity, mostIdentifier}
 use Rattle.runs.specs.Calls.{opened}
 use Rattle.runs.specs.Histories.{Distinct, identified, adds, studyAfter}
-use Rattle.runs.specs.Reports.{Report, reportChecks, reported}
+use Rattle.runs.specs.Reports.{Report, reported}
 use Rattle.runs.specs.CallLaws.{Opens, opened-accepts}
 use Rattle.runs.specs.HistoryLaws.{study-kept}
 use Rattle.runs.specs.FreshLaws.{Fit, gathered, filled-takes, filled-words}

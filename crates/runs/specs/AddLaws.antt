@@ -9,14 +9,13 @@ use native.Mathlib.Omega.{arith}
 use lib.Dec.{eqb}
 use lib.ListN.{length}
 use borrow.Author.Tests.{eqb-false, eq-eqb, ne-eqb, not-false}
-use Rattle.trees.specs.Lists.{nowhere}
-use Rattle.trees.specs.Checks.{Verdict, accepted, refused, Check, _⊳_, fewestSamples, mostSamples, rowWords, outside, check1, rowChecks, judgeChecks, judged}
+use Rattle.trees.specs.Checks.{Verdict, accepted, refused, Check, _⊳_, rowWords, rowChecks, judgeChecks, judged}
 use Rattle.trees.specs.Valid.{Valid, isAccepted}
 use Rattle.trees.specs.Numbering.{renumbered}
 use Rattle.trees.specs.ChainLaws.{chain-append, chain-go, Passed, passed-chain, chain-passed, passed-append, passed-split}
 use Rattle.trees.specs.ChainLaws.{numbers, Exactly, accepted-other, refused-exactly, line-passes, line-pass}
 use Rattle.trees.specs.OutcomeLaws.{outcome-refused, outcome-accepted}
-use Rattle.trees.specs.CheckLaws.{not-outside}
+use Rattle.trees.specs.CheckLaws.{samples-exactly}
 use Rattle.trees.specs.ValidLaws.{judged-valid, valid-row}
 use Rattle.trees.specs.NumberingLaws.{renumbered-standard, renumbered-groups, renumbered-same}
 use Rattle.runs.specs.Runs.{find, isSome, present, insertRun}
@@ -54,9 +53,6 @@ module _ (w : List ℕ) (i : ℕ) (row : List ℕ) where
   abbrev last : List Check
   last = check11 w i ∷ check12 w ∷ []
 
-  first-pass : fewestSamples ≤ n → n ≤ mostSamples → check1 n .fault ≡ nowhere
-  first-pass l m = line-pass 1 (outside fewestSamples mostSamples n) (not-outside fewestSamples mostSamples n l m)
-
   adds-to : Passed (addChecks w i row) → Adds w i row
   unfolding addChecks addFormedChecks judgeChecks
   adds-to h =
@@ -65,7 +61,7 @@ module _ (w : List ℕ) (i : ℕ) (row : List ℕ) where
       let z : i ≡ 0 → ⊥ = eqb-false i 0 (line-passes 4 (eqb i 0) (h .1 .1 .0)) in
       record {
         formed = f;
-        valid = judged-valid n row (judged-passed n row (first-pass (f .least) (f .most), (h .1 .0, s .0)));
+        valid = judged-valid n row (judged-passed n row (samples-exactly n .1 (f .least, f .most), (h .1 .0, s .0)));
         named = omega arith;
         absent = absent-none i (runs w) (line-passes 11 (present i (runs w)) (s .1 .0));
         room = room-exactly w (f .fits) .0 (line-passes 12 (full w) (s .1 .1 .0));

@@ -7,11 +7,11 @@ use native.Mathlib.Omega.{arith}
 use lib.Dec.{ltb}
 use lib.ListN.{length}
 use borrow.Author.Tests.{ltb-false, le-ltb}
-use Rattle.trees.specs.Checks.{accepted, refused, _⊳_, fewestSamples, mostSamples, outside, check1}
+use Rattle.trees.specs.Checks.{accepted, refused, _⊳_, fewestSamples, mostSamples, check1}
 use Rattle.trees.specs.Reporting.{Run}
 use Rattle.trees.specs.ChainLaws.{passed-chain, chain-passed, numbers, Exactly, accepted-other, refused-exactly, line-passes, line-pass}
 use Rattle.trees.specs.OutcomeLaws.{outcome-refused, outcome-accepted}
-use Rattle.trees.specs.CheckLaws.{outside-not, not-outside}
+use Rattle.trees.specs.CheckLaws.{samples-exactly}
 use Rattle.runs.specs.Words.{samples, runs, encode, capacity}
 use Rattle.runs.specs.Formed.{Formed}
 use Rattle.runs.specs.Calls.{check3Open, openChecks, opened}
@@ -47,12 +47,12 @@ module _ (n : ℕ) (w : List ℕ) where
       to : (check1 n ∷ check3Open n w ∷ []) ⊳ accepted ≡ accepted → Opens n w
       to e =
           let h = chain-passed (check1 n ∷ check3Open n w ∷ []) e in
-          let b = outside-not fewestSamples mostSamples n (line-passes 1 (outside fewestSamples mostSamples n) (h .0)) in
+          let b = samples-exactly n .0 (h .0) in
           record { least = b .0; most = b .1; one = ltb-false (capacity (length w) n) 1 (line-passes 3 (ltb (capacity (length w) n) 1) (h .1 .0)) }
 
       from : Opens n w → (check1 n ∷ check3Open n w ∷ []) ⊳ accepted ≡ accepted
       from o = passed-chain (check1 n ∷ check3Open n w ∷ []) accepted (
-        line-pass 1 (outside fewestSamples mostSamples n) (not-outside fewestSamples mostSamples n (o .least) (o .most)),
+        samples-exactly n .1 (o .least, o .most),
         (line-pass 3 (ltb (capacity (length w) n) 1) (le-ltb (capacity (length w) n) 1 (o .one)), tt),
       )
 

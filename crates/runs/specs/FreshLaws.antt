@@ -25,7 +25,6 @@ use Rattle.runs.specs.Histories.{Distinct, Anew, adds, Renewed, Shuffled
 use Rattle.runs.specs.RunLaws.{Absent, cond-swap, find-below, find-here, find-past, absent-head, absent-tail, absent-member}
 use Rattle.runs.specs.RunLaws.{find-named, find-member, find-above, rising-unique, find-insert, insert-rising, length-insert}
 use Rattle.runs.specs.WordLaws.{length-runs}
-use Rattle.runs.specs.FormedLaws.{formed-unique}
 use Rattle.runs.specs.CallLaws.{Kept, kept-on, opened-accepts, opened-kept, opened-none}
 use Rattle.runs.specs.AddLaws.{Adds, added-accepts, added-kept, added-runs, added-find}
 use Rattle.runs.specs.HistoryLaws.{study-kept, study-words, study-find, Proper, study-proper}

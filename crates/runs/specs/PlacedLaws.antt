@@ -1,6 +1,6 @@
 -- Where opening, adding, withdrawing and reporting refuse, the place is 0 or a node or word of the row. Assumes nothing.
-use Prim.Native.Nat.{ℕ, _<_}
-use mathlib.Core.List.{List, [], _∷_, _++_}
+use Prim.Native.Nat.{ℕ}
+use mathlib.Core.List.{List, [], _∷_}
 use mathlib.Core.Bool.{Bool, not, _||_}
 use native.Mathlib.Omega.{arith}
 use lib.Dec.{eqb, ltb}

@@ -1,6 +1,6 @@
 -- Withdrawing: when it accepts, what each number means, that it keeps a study well formed, and that its room takes the next add. Assumes nothing.
 use Prim.Native.Nat.{ℕ, _<_}
-use mathlib.Core.Path.{_≡_, refl, sym, ap, _∙_}
+use mathlib.Core.Path.{_≡_, refl, ap, _∙_}
 use mathlib.Core.Logic.{_↔_}
 use mathlib.Core.List.{List, [], _∷_}
 use mathlib.Core.Option.{Option, some, none}
@@ -9,18 +9,17 @@ use native.Mathlib.Omega.{arith}
 use lib.Dec.{eqb}
 use lib.ListN.{length}
 use borrow.Author.Tests.{eqb-false, eq-eqb, ne-eqb, not-false}
-use Rattle.trees.specs.Lists.{nowhere, at}
 use Rattle.trees.specs.Checks.{accepted, refused, _⊳_, judged}
 use Rattle.trees.specs.Reporting.{Run}
 use Rattle.trees.specs.ChainLaws.{chain-go, Passed, passed-chain, chain-passed, numbers, Exactly, accepted-other, refused-exactly, line-passes, line-pass}
 use Rattle.trees.specs.OutcomeLaws.{outcome-refused, outcome-accepted}
 use Rattle.trees.specs.ValidLaws.{judged-valid}
 use Rattle.runs.specs.Runs.{find, isSome, present, deleteRun}
-use Rattle.runs.specs.Words.{samples, inForce, runs, encode, capacity, full}
+use Rattle.runs.specs.Words.{samples, inForce, runs, encode, capacity}
 use Rattle.runs.specs.Formed.{wellFormed, Formed}
 use Rattle.runs.specs.Calls.{check2, added, withdrawFormedChecks, withdrawChecks, withdrawn}
 use Rattle.runs.specs.RunLaws.{Absent, find-delete, delete-rising, length-delete, delete-member, present-some}
-use Rattle.runs.specs.WordLaws.{room-exactly, length-runs}
+use Rattle.runs.specs.WordLaws.{length-runs}
 use Rattle.runs.specs.FormedLaws.{formed-to, formed-from, Room, room-runs}
 use Rattle.runs.specs.CallLaws.{Kept, room-kept}
 use Rattle.runs.specs.AddLaws.{added-accepts}

@@ -11,7 +11,7 @@ use Rattle.trees.specs.Rows.{nodes, rootMark, childOf}
 use Rattle.trees.specs.Checks.{accepted, refused, Check, line, lineAt, _⊳_, fewestSamples, mostSamples, rowWords, outside}
 use Rattle.trees.specs.Checks.{check1, check6, check7, check8, check9, check10, rowChecks, judgeChecks}
 use Rattle.trees.specs.RowCalls.{check3Both, renumberChecks, movedPlace, moved, compareChecks}
-use Rattle.trees.specs.ChainLaws.{Passed, Given, here, later, chain-given, accepted-other, lacks, given-lacks, line-passes}
+use Rattle.trees.specs.ChainLaws.{Given, here, later, chain-given, accepted-other, lacks, given-lacks, line-passes}
 use Rattle.trees.specs.ListLaws.{first-lowest}
 use Rattle.trees.specs.RowCallLaws.{moved-nowhere}
 use Rattle.trees.specs.CheckLaws.{outside-not, samples-exactly}

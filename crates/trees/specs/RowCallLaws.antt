@@ -1,27 +1,25 @@
 -- Demand 1 for renumbering and comparing, and what an accepted renumbering leaves. Assumes nothing.
-use Prim.Native.Nat.{ℕ, _+_, _-_, _≤_, _<_}
+use Prim.Native.Nat.{ℕ, _+_}
 use mathlib.Core.Path.{_≡_, refl, sym, ap, _∙_}
 use mathlib.Core.Logic.{_↔_}
 use mathlib.Core.List.{List, [], _∷_, map}
-use mathlib.Core.Bool.{Bool, true, false, not}
+use mathlib.Core.Bool.{not}
 use native.Mathlib.Omega.{arith}
 use lib.Dec.{eqb}
 use lib.ListN.{length}
 use borrow.Author.Tests.{eqb-true, eq-eqb, not-false}
-use Rattle.trees.specs.Lists.{Place, nowhere, at, range, count}
+use Rattle.trees.specs.Lists.{Place, nowhere, at}
 use Rattle.trees.specs.Groups.{Group, member}
-use Rattle.trees.specs.Rows.{groups, nodes, rootMark, childOf}
-use Rattle.trees.specs.Checks.{Verdict, accepted, refused, counted, Check, line, lineAt, orElse, _⊳_, rowWords}
-use Rattle.trees.specs.Checks.{fewestSamples, outside, check3, check6, check7, check8, check9, check10, rowChecks, judgeChecks}
+use Rattle.trees.specs.Rows.{groups}
+use Rattle.trees.specs.Checks.{Verdict, accepted, refused, counted, Check, orElse, _⊳_, rowWords}
+use Rattle.trees.specs.Checks.{check3, rowChecks, judgeChecks}
 use Rattle.trees.specs.Valid.{Valid, Standard}
 use Rattle.trees.specs.Numbering.{renumbered}
 use Rattle.trees.specs.Comparing.{shared, alone, compared}
 use Rattle.trees.specs.RowCalls.{check3Both, renumberChecks, renumbering, movedPlace, moved, compareChecks, comparing}
 use Rattle.trees.specs.BoolLaws.{or-none}
-use Rattle.trees.specs.ChainLaws.{Passed, passed-chain, unrefused-passed, chain-passed, Exactly, accepted-other, counted-other, refused-exactly, numbers, Given}
-use Rattle.trees.specs.ChainLaws.{here, later, chain-given, line-passes, passed-append, passed-split}
-use Rattle.trees.specs.ListLaws.{first-lowest}
-use Rattle.trees.specs.CheckLaws.{outside-not}
+use Rattle.trees.specs.ChainLaws.{Passed, passed-chain, unrefused-passed, chain-passed, Exactly, accepted-other, counted-other, refused-exactly, numbers}
+use Rattle.trees.specs.ChainLaws.{line-passes, passed-append, passed-split}
 use Rattle.trees.specs.ValidLaws.{passed-valid, valid-passed}
 use Rattle.trees.specs.NumberingLaws.{renumbered-standard, renumbered-groups, renumbered-same}
 use Rattle.trees.specs.OutcomeLaws.{outcome-refused, outcome-accepted}

@@ -17,7 +17,7 @@ use Rattle.trees.specs.Valid.{Valid, isAccepted}
 use Rattle.trees.specs.BoolLaws.{and-both, or-r, not-yes, decide}
 use Rattle.trees.specs.ListLaws.{first-lowest, first-nowhere, nowhere-first, Lowest}
 use Rattle.trees.specs.ChainLaws.{Passed, passed-chain, chain-passed, Exactly, chain-given, accepted-other, refused-exactly, lacks, given-alone, line-passes}
-use Rattle.trees.specs.CheckLaws.{outside-not, not-outside, inner-from, stray-not, check6-closed}
+use Rattle.trees.specs.CheckLaws.{samples-exactly, outside-not, not-outside, inner-from, stray-not, check6-closed}
 use Rattle.trees.specs.WayLaws.{Closed, ends-enough}
 
 pub accepted-to : (v : Verdict) → isAccepted v ≡ true → v ≡ accepted
@@ -31,7 +31,7 @@ module _ (n : ℕ) (r : List ℕ) where
   pub passed-valid : Passed (judgeChecks n r) → Valid n r
   unfolding judgeChecks rowChecks
   passed-valid h =
-      let b = outside-not fewestSamples mostSamples n (line-passes 1 (outside fewestSamples mostSamples n) (h .0)) in
+      let b = samples-exactly n .0 (h .0) in
       let w = eqb-true (length r) (rowWords n) (not-false _ (line-passes 3 (not (eqb (length r) (rowWords n))) (h .1 .0))) in
       let m = outside-not (n + 1) (rowWords n - 1) (nodes r) (line-passes 5 (outside (n + 1) (rowWords n - 1) (nodes r)) (h .1 .1 .0)) in
       let p : (v : ℕ) → v < nodes r → ((n ≤ parent r v) × (parent r v < nodes r)) ⊎ ((n ≤ v) × (parent r v ≡ rootMark)) = λ v l. stray-not n
@@ -53,7 +53,7 @@ module _ (n : ℕ) (r : List ℕ) where
   pub valid-passed : Valid n r → Passed (judgeChecks n r)
   unfolding judgeChecks rowChecks
   valid-passed ok = (
-    rw (not-outside fewestSamples mostSamples n (ok .least) (ok .most)),
+    samples-exactly n .1 (ok .least, ok .most),
     (
       rw (eq-eqb (length r) (rowWords n) (ok .words)),
       (
