@@ -62,7 +62,7 @@ capacity-largest len n k h l =
 pub capacity-exactly : (len n k : ℕ) → 1 ≤ k → (k ≤ capacity len n) ↔ ((k ≤ 1024) × (8 + k * (2 * n + 1) ≤ len))
 capacity-exactly len n k h = (
   λ l. (omega (arith, capacity-most len n), capacity-room len n k (omega arith) l),
-  λ t. capacity-largest len n k (t .0) (t .1),
+  λ t. capacity-largest len n k (omega (arith, t .0)) (t .1),
 )
 
 -- a study is full once k has reached the capacity

@@ -4,6 +4,7 @@ use mathlib.Core.Path.{_≡_, refl}
 use mathlib.Core.Logic.{_↔_, _⊎_, inl, inr, ⊎-elim}
 use mathlib.Core.List.{List, [], _∷_}
 use mathlib.Core.Bool.{true, false, _&&_}
+use native.Mathlib.Omega.{arith}
 use lib.Dec.{eqb, ltb, leb}
 use borrow.Author.Tests.{eqb-true, eqb-false, ltb-true, ltb-false, leb-true, lt-ltb, le-ltb, le-leb, not-false}
 use Rattle.trees.specs.Lists.{nowhere}
@@ -32,8 +33,8 @@ not-outside a b x h k = rw (le-ltb x a h, le-ltb b x k)
 -- check 1 in its own figures (RULES 1.1)
 pub samples-exactly : (n : ℕ) → (check1 n .fault ≡ nowhere) ↔ ((2 ≤ n) × (n ≤ 512))
 samples-exactly n = (
-  λ e. outside-not fewestSamples mostSamples n (line-passes 1 (outside fewestSamples mostSamples n) e),
-  λ t. line-pass 1 (outside fewestSamples mostSamples n) (not-outside fewestSamples mostSamples n (t .0) (t .1)),
+  λ e. let t = outside-not fewestSamples mostSamples n (line-passes 1 (outside fewestSamples mostSamples n) e) in (omega (arith, t .0), omega (arith, t .1)),
+  λ t. line-pass 1 (outside fewestSamples mostSamples n) (not-outside fewestSamples mostSamples n (omega (arith, t .0)) (omega (arith, t .1))),
 )
 
 pub inner-to : (n m p : ℕ) → isInner n m p ≡ true → (n ≤ p) × (p < m)

@@ -10,7 +10,7 @@ use borrow.Author.Tests.{lt-ltb}
 use native.Mathlib.Nat.{le-antisymm}
 use Rattle.trees.specs.Lists.{tabulate, range, filter, weigh, count}
 use Rattle.trees.specs.Groups.{Group, single, size, before, member}
-use Rattle.trees.specs.Checks.{rowWords}
+use Rattle.trees.specs.Checks.{counted, rowWords}
 use Rattle.trees.specs.Valid.{Valid, In, Strict, Standard}
 use Rattle.trees.specs.Rows.{nodes, groupAt, groups, inner, holds}
 use Rattle.trees.specs.Numbering.{ordered, groupSet, renumbered}
@@ -54,6 +54,16 @@ shared-comm n r q = count-filter _ (groupSet n r)
 -- a row's groups are those that the other has and those that it has not
 pub shared-alone : (n : ℕ) (r q : List ℕ) → shared n r q + alone n r q ≡ length (groupSet n r)
 shared-alone n r q = count-not (λ g. member g (groupSet n q)) (groupSet n r)
+
+-- which count is whose (RULES 8.1): with the shared groups, the second count makes the groups of the first row, and the third those of the second
+pub compared-sides : (n : ℕ) (r q : List ℕ) (a b c : ℕ) → compared n r q ≡ counted a b c
+    → (a + b ≡ length (groupSet n r)) × (a + c ≡ length (groupSet n q))
+unfolding compared
+compared-sides n r q a b c e =
+    let x : shared n r q ≡ a = cc in
+    let y : alone n r q ≡ b = cc in
+    let z : alone n q r ≡ c = cc in
+    (omega (arith, shared-alone n r q), omega (arith, shared-alone n q r, shared-comm n r q))
 
 -- comparing depends on the sets of groups alone
 pub compared-renumbered : (n : ℕ) (r q : List ℕ) → Valid n r → Valid n q → compared n r q ≡ compared n (renumbered n r) (renumbered n q)
