@@ -1,58 +1,58 @@
 -- How the answers of the checks make the answer of comparing. Assumes nothing.
-use Prim.Native.Nat.{ℕ, _+_}
-use mathlib.Core.Path.{_≡_, ap, _∙_}
+use Prim.Native.Nat.{ℕ}
+use mathlib.Core.Path.{_≡_, refl, sym, ap, _∙_}
 use mathlib.Core.List.{List, map}
 use mathlib.Core.Bool.{Bool, not}
-use native.Mathlib.Omega.{arith}
 use lib.ListN.{length}
 use borrow.Author.Tests.{eq-eqb}
-use Rattle.trees.specs.Checks.{Verdict, accepted, refused, Check, line, _⊳_, rowWords, rowChecks, judgeChecks}
+use Rattle.trees.specs.Checks.{Verdict, accepted, refused, counted, Check, line, _⊳_, rowWords, rowChecks, judgeChecks}
 use Rattle.trees.specs.Valid.{Valid}
-use Rattle.trees.specs.Comparing.{compared}
-use Rattle.trees.specs.RowCalls.{moved, renumberChecks, compareChecks, comparing}
-use Rattle.trees.specs.ChainLaws.{chain-append, chain-passed, passed-chain, chain-given, given-chain}
+use Rattle.trees.specs.RowCalls.{moved, renumberChecks, compareChecks}
+use Rattle.trees.specs.ChainLaws.{chain-append, chain-passed, passed-chain, passed-split, chain-given, given-chain, accepted-other}
 use Rattle.trees.specs.ValidLaws.{passed-valid}
 use Rattle.trees.specs.RowCallLaws.{movedVerdict, chain-moved}
-use Rattle.row.proofs.AnswerLaws.{second-words}
+use Rattle.judge.specs.declared.Answer.{Answer}
+use Rattle.judge.specs.declared.Answer.the-variants.{Accepted, Refused}
+use Rattle.judge.specs.Verdicts.{verdict}
+use Rattle.row.proofs.AnswerLaws.{first-valid, second-words}
 
 -- ---- a chain that refuses or accepts does so whatever comes after it
 
-module _ (cs : List Check) (v : Verdict) where
-  refuses : (k p : ℕ) → cs ⊳ accepted ≡ refused k p → cs ⊳ v ≡ refused k p
-  refuses k p e = given-chain cs v k p (chain-given cs accepted k p (λ q. let z : _≡_ {A = ℕ} 0 1 = cc in omega arith) e)
+module _ (a : Answer) (cs : List Check) (e : verdict a ≡ cs ⊳ accepted) (v : Verdict) where
+  pub refuses : (k p : ℕ) → a ≡ Refused k p → cs ⊳ v ≡ refused k p
+  refuses k p q = given-chain cs v k p (chain-given cs accepted k p (accepted-other k p) (sym e ∙ ap verdict q))
 
-  accepts : cs ⊳ accepted ≡ accepted → cs ⊳ v ≡ v
-  accepts e = passed-chain cs v (chain-passed cs e)
+  pub accepts : a ≡ Accepted → cs ⊳ v ≡ v
+  accepts q = passed-chain cs v (chain-passed cs (sym e ∙ ap verdict q))
+
+-- ---- the second row's checks
+
+-- a verdict with its place moved is an acceptance only if it was one
+moved-accepted : (d : ℕ) (v : Verdict) → movedVerdict d v ≡ accepted → v ≡ accepted
+moved-accepted d accepted e = refl
+moved-accepted d (refused k p) e = cc
+moved-accepted d (counted a b c) e = cc
+
+-- what a row is answered by itself, with the place moved, is the answer of the second row's checks
+pub place-moved : (n : ℕ) (q : List ℕ) (a b : Answer) → verdict a ≡ rowChecks n q ⊳ accepted → a ≡ b
+    → movedVerdict (rowWords n) (verdict b) ≡ map (moved (rowWords n)) (rowChecks n q) ⊳ accepted
+place-moved n q a b e k = sym (chain-moved (rowWords n) (rowChecks n q) ∙ ap (movedVerdict (rowWords n)) (sym e ∙ ap verdict k))
 
 module _ (n : ℕ) (r q : List ℕ) where
   abbrev seconds : List Check
   seconds = map (moved (rowWords n)) (rowChecks n q)
 
-  split : comparing n r q ≡ renumberChecks n r q ⊳ (seconds ⊳ compared n r q)
-  unfolding comparing compareChecks renumberChecks
-  split = chain-append (renumberChecks n r q) seconds (compared n r q)
+  -- they come behind those that renumbering has
+  pub checks-split : (v : Verdict) → compareChecks n r q ⊳ v ≡ renumberChecks n r q ⊳ (seconds ⊳ v)
+  unfolding compareChecks renumberChecks
+  checks-split v = chain-append (renumberChecks n r q) seconds v
 
-  -- ---- the first row is refused
-
-  pub first-refused : (k p : ℕ) → renumberChecks n r q ⊳ accepted ≡ refused k p → comparing n r q ≡ refused k p
-  first-refused k p e = split ∙ refuses (renumberChecks n r q) (seconds ⊳ compared n r q) k p e
-
-  -- ---- the first row is accepted
-
-  module _ (e : renumberChecks n r q ⊳ accepted ≡ accepted) where
-    rest : comparing n r q ≡ seconds ⊳ compared n r q
-    rest = split ∙ accepts (renumberChecks n r q) (seconds ⊳ compared n r q) e
-
-    pub second-refused : (k p : ℕ) → rowChecks n q ⊳ accepted ≡ refused k p → comparing n r q ≡ refused k (p + rowWords n)
-    second-refused k p f = rest ∙ refuses seconds (compared n r q) k (p + rowWords n)
-        (chain-moved (rowWords n) (rowChecks n q) ∙ ap (movedVerdict (rowWords n)) f)
-
-    module _ (f : rowChecks n q ⊳ accepted ≡ accepted) where
-      pub both-accepted : comparing n r q ≡ compared n r q
-      both-accepted = rest ∙ accepts seconds (compared n r q) (chain-moved (rowWords n) (rowChecks n q) ∙ ap (movedVerdict (rowWords n)) f)
-
-      pub second-valid : Valid n q
-      unfolding renumberChecks judgeChecks
-      second-valid =
-          let e3 = ap (λ (b : Bool). line 3 (not b) .fault) (eq-eqb (length q) (rowWords n) (second-words n r q e)) in
-          passed-valid n q (chain-passed (renumberChecks n r q) e .0, (e3, chain-passed (rowChecks n q) f))
+  -- rows that pass all of them are valid
+  pub both-valid : (a : Answer) → verdict a ≡ compareChecks n r q ⊳ accepted → a ≡ Accepted → Valid n r × Valid n q
+  unfolding compareChecks renumberChecks judgeChecks
+  both-valid a e k =
+      let h = passed-split (renumberChecks n r q) seconds (chain-passed (compareChecks n r q) (sym e ∙ ap verdict k)) in
+      let one = passed-chain (renumberChecks n r q) accepted (h .0) in
+      let two = moved-accepted (rowWords n) _ (sym (chain-moved (rowWords n) (rowChecks n q)) ∙ passed-chain seconds accepted (h .1)) in
+      let e3 = ap (λ (b : Bool). line 3 (not b) .fault) (eq-eqb (length q) (rowWords n) (second-words n r q one)) in
+      (first-valid n r q one, passed-valid n q (h .0 .0, (e3, chain-passed (rowChecks n q) two)))

@@ -1,19 +1,22 @@
 // Comparing two rows that are handed in (RULES 8).
 ghost use mathlib.Core.Path.{_≡_};
 ghost use mathlib.Core.Bool.{not};
+ghost use mathlib.Core.List.{map};
 ghost use Prim.Native.Nat.{_≤_};
 ghost use lib.Dec.{eqb};
 ghost use lib.ListN.{length, getD};
 ghost use Rattle.trees.specs.Lists.{range, count};
 ghost use Rattle.trees.specs.Rows.{nodes, groupAt, holds};
-ghost use Rattle.trees.specs.Checks.{rowWords};
+ghost use Rattle.trees.specs.Checks.{accepted, _⊳_, fewestSamples, mostSamples, rowWords, rowChecks};
 ghost use Rattle.trees.specs.Valid.{Valid, Standard};
 ghost use Rattle.trees.specs.Comparing.{compared};
 ghost use Rattle.trees.specs.Tables.{tableWords};
 ghost use Rattle.trees.specs.Mates.{noMate};
-ghost use Rattle.trees.specs.RowCalls.{comparing};
+ghost use Rattle.trees.specs.RowCalls.{moved, compareChecks, comparing};
+ghost use Rattle.judge.specs.Verdicts.{verdict};
 ghost use Rattle.compare.specs.Comparisons.{comparison};
 use judge::Answer;
+use judge::check_row;
 use passes::TABLE;
 use passes::Table;
 use row::check_first;
@@ -87,17 +90,34 @@ fn counts_valid(n: usize, first: &[u16], second: &[u16]) -> Comparison
     counts_by(n, first, second, &mut a[..w], &mut b[..w])
 }
 
-// Comparing: a refusal, of the second row with 2n added to its place (RULES 7.7), or the three counts.
+// Checks 5 to 10 of the second row, with 2n added to the place.
+fn check_second(n: usize, second: &[u16]) -> Answer
+    requires { ⌜ (fewestSamples ≤ n) × (n ≤ mostSamples) × (length (now second) ≡ rowWords n) ⌝ }
+    ensures { λ r. ⌜ verdict r ≡ map (moved (rowWords n)) (rowChecks n (now (second .entry))) ⊳ accepted ⌝ }
+{
+    let Answer::Refused(number, place) = check_row(n, second) else {
+        return Answer::Accepted;
+    };
+    Answer::Refused(number, place + 2 * n)
+}
+
+// The checks of comparing (RULES 7.7).
+fn rows_given(n: usize, first: &[u16], second: &[u16]) -> Answer
+    ensures { λ r. ⌜ verdict r ≡ compareChecks n (now (first .entry)) (now (second .entry)) ⊳ accepted ⌝ }
+{
+    let a = check_first(n, first, second);
+    let Answer::Accepted = a else {
+        return a;
+    };
+    check_second(n, second)
+}
+
+// Comparing: a refusal, or the three counts (RULES 8.1).
 pub fn compare(n: usize, first: &[u16], second: &[u16]) -> Comparison
     ensures { λ r. ⌜ comparison r ≡ comparing n (now (first .entry)) (now (second .entry)) ⌝ }
 {
-    let a = check_first(n, first, second);
-    if let Answer::Refused(number, place) = a {
-        return Comparison::Refused(number, place);
-    }
-    let b = judge::check_row(n, second);
-    if let Answer::Refused(number, place) = b {
-        return Comparison::Refused(number, place + 2 * n);
-    }
-    counts_valid(n, first, second)
+    let Answer::Refused(number, place) = rows_given(n, first, second) else {
+        return counts_valid(n, first, second);
+    };
+    Comparison::Refused(number, place)
 }

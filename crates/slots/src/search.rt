@@ -29,16 +29,16 @@ pub fn slot_row(words: &[u16], n: usize, p: usize) -> &[u16]
     &words[from..from + 2 * n]
 }
 
-// Where an identifier stands among the slots, or the slot before which it would.
-pub enum Spot {
-    At(usize),
-    Before(usize),
+// The slot in which an identifier stands, or, where it is not taken, the slot before which it would.
+pub struct Spot {
+    pub at: usize,
+    pub taken: bool,
 }
 
 // The spot of an identifier in a well-formed study.
 pub fn find_slot(words: &[u16], id: u16) -> Spot
     requires { ⌜ Formed (now words) ⌝ }
-    ensures { λ r. ⌜ Spotted (now (words .entry)) id r ⌝ }
+    ensures { λ r. ⌜ Spotted (now (words .entry)) id (r .at) (r .taken) ⌝ }
 {
     let width = slot_words(samples(words));
     let k = in_force(words);
@@ -47,13 +47,19 @@ pub fn find_slot(words: &[u16], id: u16) -> Spot
     while i < k {
         let x = words[p];
         if x == id {
-            return Spot::At(i);
+            return Spot { at: i, taken: true };
         }
         if id < x {
-            return Spot::Before(i);
+            return Spot {
+                at: i,
+                taken: false,
+            };
         }
         i += 1;
         p += width;
     }
-    Spot::Before(i)
+    Spot {
+        at: i,
+        taken: false,
+    }
 }

@@ -1,16 +1,16 @@
 -- How an answer passes along the checks of a call, what is known from an acceptance, and the words that a call leaves. Assumes nothing.
 use Prim.Native.Nat.{ℕ, _+_, _≤_}
-use mathlib.Core.Path.{_≡_, sym, ap, _∙_}
+use mathlib.Core.Path.{_≡_, sym, ap, subst, _∙_}
 use mathlib.Core.List.{List, [], _∷_, _++_}
-use mathlib.Core.Bool.{true, false, not}
+use mathlib.Core.Bool.{Bool, true, false, not}
 use native.Mathlib.Omega.{arith}
 use lib.ListN.{length}
 use borrow.Author.Tests.{not-false}
 use Rattle.trees.specs.Lists.{nowhere}
-use Rattle.trees.specs.Checks.{Verdict, accepted, refused, Check, _⊳_, asked, fewestSamples, mostSamples, outside}
+use Rattle.trees.specs.Checks.{Verdict, accepted, refused, Check, line, _⊳_, asked, fewestSamples, mostSamples}
 use Rattle.trees.specs.Checks.{check1, check3, rowChecks, judgeChecks, judged}
 use Rattle.trees.specs.Valid.{Valid}
-use Rattle.trees.specs.ChainLaws.{chain-append, passed-chain, chain-passed, chain-given, given-chain, asked-passes, line-passes}
+use Rattle.trees.specs.ChainLaws.{chain-append, passed-chain, chain-passed, chain-given, given-chain, asked-passes, accepted-other, line-passes}
 use Rattle.trees.specs.CheckLaws.{not-outside}
 use Rattle.trees.specs.ValidLaws.{judged-valid}
 use Rattle.runs.specs.Runs.{isSome, present, deleteRun}
@@ -29,8 +29,8 @@ use Rattle.judge.specs.declared.Answer.the-variants.{Accepted, Refused}
 use Rattle.judge.specs.Verdicts.{verdict}
 use Rattle.runs.specs.Moves.{StandsAt, GoesBefore}
 use Rattle.runs.specs.MoveLaws.{stands-found, goes-absent}
+use Rattle.slots.specs.Slots.{Spotted}
 use Rattle.study.specs.Adding.{givenChecks, addedValid}
-use Rattle.runs.specs.Words.{full}
 
 -- ---- an answer and the checks after it
 
@@ -46,21 +46,34 @@ pub one-check : (r : Answer) (c : Check) → verdict r ≡ asked c → verdict r
 unfolding _⊳_
 one-check r c e = e
 
-module _ (r : Answer) (cs ds : List Check) (e : verdict r ≡ cs ⊳ accepted) where
-  pub stops : (k p : ℕ) → r ≡ Refused k p → (cs ++ ds) ⊳ accepted ≡ verdict r
-  stops k p q = chain-append cs ds accepted
-      ∙ given-chain cs (ds ⊳ accepted) k p (chain-given cs accepted k p (λ z. let n : _≡_ {A = ℕ} 0 1 = cc in omega arith) (sym e ∙ ap verdict q))
-      ∙ sym (ap verdict q)
+module _ (r : Answer) (cs ds : List Check) (e : verdict r ≡ cs ⊳ accepted) (old new : List ℕ) where
+  -- a refusal is handed on, and after an acceptance the other checks decide
+  outcome-stops : (k p : ℕ) → r ≡ Refused k p → outcome (cs ++ ds) old new ≡ refusal r old
+  outcome-stops k p q =
+      let g = chain-given cs accepted k p (accepted-other k p) (sym e ∙ ap verdict q) in
+      let s : (cs ++ ds) ⊳ accepted ≡ refused k p = chain-append cs ds accepted ∙ given-chain cs (ds ⊳ accepted) k p g in
+      rw (s, q)
 
-  pub goes : r ≡ Accepted → (cs ++ ds) ⊳ accepted ≡ ds ⊳ accepted
-  goes q = chain-append cs ds accepted ∙ passed-chain cs (ds ⊳ accepted) (chain-passed cs (sym e ∙ ap verdict q))
+  outcome-goes : r ≡ Accepted → outcome (cs ++ ds) old new ≡ outcome ds old new
+  outcome-goes q =
+      let s : (cs ++ ds) ⊳ accepted ≡ ds ⊳ accepted = chain-append cs ds accepted ∙ passed-chain cs (ds ⊳ accepted) (chain-passed cs (sym e ∙ ap verdict q)) in
+      rw s
 
-  -- the same of verdict and words together
-  pub outcome-stops : (old new : List ℕ) (k p : ℕ) → r ≡ Refused k p → outcome (cs ++ ds) old new ≡ refusal r old
-  outcome-stops old new k p q = let s : (cs ++ ds) ⊳ accepted ≡ refused k p = stops k p q ∙ ap verdict q in rw (s, q)
+-- of two checks the first refuses, or the second, or neither
+module _ (c d : Check) (old new : List ℕ) (r : Answer) (e : verdict r ≡ asked c) where
+  pub first-stops : (k p : ℕ) → r ≡ Refused k p → outcome (c ∷ d ∷ []) old new ≡ refusal r old
+  first-stops = outcome-stops r (c ∷ []) (d ∷ []) (one-check r c e) old new
 
-  pub outcome-goes : (old new : List ℕ) → r ≡ Accepted → outcome (cs ++ ds) old new ≡ outcome ds old new
-  outcome-goes old new q = rw (goes q)
+  module _ (q : r ≡ Accepted) (s : Answer) (f : verdict s ≡ asked d) where
+    left : outcome (c ∷ d ∷ []) old new ≡ outcome (d ∷ []) old new
+    left = outcome-goes r (c ∷ []) (d ∷ []) (one-check r c e) old new q
+
+    pub second-stops : (k p : ℕ) → s ≡ Refused k p → outcome (c ∷ d ∷ []) old new ≡ refusal s old
+    second-stops k p g = left ∙ outcome-stops s (d ∷ []) [] (one-check s d f) old new k p g
+
+    pub both-go : s ≡ Accepted → outcome (c ∷ d ∷ []) old new ≡ accepts new
+    unfolding _⊳_
+    both-go g = left ∙ outcome-goes s (d ∷ []) [] (one-check s d f) old new g
 
 -- what an outcome says
 pub leaves : (o : Outcome) (v : Verdict) (ws : List ℕ) → o ≡ record { verdict = v; words = ws } → (v ≡ o .verdict) × (ws ≡ o .words)
@@ -68,8 +81,12 @@ leaves o v ws e = (sym (ap (λ (x : Outcome). x .verdict) e), sym (ap (λ (x : O
 
 -- ---- what is known from an acceptance
 
+-- a line that was accepted does not apply
+pub line-passed : (k : ℕ) (b : Bool) (r : Answer) → verdict r ≡ asked (line k b) → r ≡ Accepted → b ≡ false
+line-passed k b r e q = line-passes k b (asked-passes (line k b) (sym e ∙ ap verdict q))
+
 pub study-formed : (w : List ℕ) (r : Answer) → verdict r ≡ asked (check2 w) → r ≡ Accepted → Formed w
-study-formed w r e q = formed-to w (not-false _ (line-passes 2 (not (wellFormed w)) (asked-passes (check2 w) (sym e ∙ ap verdict q))))
+study-formed w r e q = formed-to w (not-false _ (line-passed 2 (not (wellFormed w)) r e q))
 
 pub run-valid : (n i : ℕ) (row : List ℕ) (r : Answer) → fewestSamples ≤ n → n ≤ mostSamples → verdict r ≡ givenChecks n i row ⊳ accepted
     → r ≡ Accepted → Valid n row
@@ -99,60 +116,36 @@ module _ (w : List ℕ) (f : Formed w) where
     added-stops k p q = add-checked i row ∙ outcome-stops r (givenChecks (samples w) i row) (check11 w i ∷ check12 w ∷ []) e w _ k p q
 
     pub added-goes : r ≡ Accepted → added w i row ≡ addedValid w i row
-    unfolding addedValid
     added-goes q = add-checked i row ∙ outcome-goes r (givenChecks (samples w) i row) (check11 w i ∷ check12 w ∷ []) e w _ q
 
-  withdraw-checked : (i : ℕ) → withdrawn w i ≡ outcome ((check4 i ∷ []) ++ (check13 w i ∷ [])) w (encode (length w) (samples w) (deleteRun i (runs w)))
+  pub withdraw-checked : (i : ℕ) → withdrawn w i ≡ outcome (check4 i ∷ check13 w i ∷ []) w (encode (length w) (samples w) (deleteRun i (runs w)))
   unfolding withdrawn withdrawFormedChecks
   withdraw-checked i = rw (withdrawn-formed w i (formed-from w f))
 
-  module _ (r : Answer) (i : ℕ) (e : verdict r ≡ asked (check4 i)) where
-    pub withdrawn-stops : (k p : ℕ) → r ≡ Refused k p → withdrawn w i ≡ refusal r w
-    withdrawn-stops k p q = withdraw-checked i ∙ outcome-stops r (check4 i ∷ []) (check13 w i ∷ []) (one-check r (check4 i) e) w _ k p q
+  module _ (d i : ℕ) where
+    -- an identifier is in force exactly if its spot is taken
+    pub spot-present : (t : Bool) → Spotted w d i t → present d (runs w) ≡ t
+    spot-present true s = ap isSome (stands-found w f d i s .1)
+    spot-present false s = ap isSome (goes-absent w f d i s)
 
-    withdrawn-goes : r ≡ Accepted → withdrawn w i ≡ outcome (check13 w i ∷ []) w (encode (length w) (samples w) (deleteRun i (runs w)))
-    withdrawn-goes q = withdraw-checked i ∙ outcome-goes r (check4 i ∷ []) (check13 w i ∷ []) (one-check r (check4 i) e) w _ q
+    -- check 11 leaves those that go before a slot, and check 13 those that stand in one
+    module _ (t : Bool) (s : Spotted w d i t) (r : Answer) where
+      pub free-goes : verdict r ≡ asked (check11 w d) → r ≡ Accepted → GoesBefore w d i
+      free-goes e q = subst (Spotted w d i) (sym (spot-present t s) ∙ line-passed 11 (present d (runs w)) r e q) s
 
-    pub withdrawn-absent : r ≡ Accepted → present i (runs w) ≡ false → withdrawn w i ≡ refusal (Refused 13 0) w
-    unfolding _⊳_
-    withdrawn-absent q a = withdrawn-goes q ∙ rw a
-
-    pub withdrawn-old : r ≡ Accepted → present i (runs w) ≡ true → withdrawn w i ≡ accepts (encode (length w) (samples w) (deleteRun i (runs w)))
-    unfolding _⊳_
-    withdrawn-old q a = withdrawn-goes q ∙ rw a
-
-  -- an identifier that stands in a slot is in force, and one that goes before a slot is not
-  pub stands-present : (d i : ℕ) → StandsAt w d i → present d (runs w) ≡ true
-  stands-present d i s = ap isSome (stands-found w f d i s .1)
-
-  pub goes-missing : (d i : ℕ) → GoesBefore w d i → present d (runs w) ≡ false
-  goes-missing d i g = ap isSome (goes-absent w f d i g)
-
--- ---- the last checks of adding and withdrawing
-
-module _ (w : List ℕ) (i : ℕ) (row : List ℕ) where
-  pub added-taken : present i (runs w) ≡ true → addedValid w i row ≡ refusal (Refused 11 0) w
-  unfolding addedValid _⊳_
-  added-taken e = rw e
-
-  pub added-full : present i (runs w) ≡ false → full w ≡ true → addedValid w i row ≡ refusal (Refused 12 0) w
-  unfolding addedValid _⊳_
-  added-full e q = rw (e, q)
-
-  pub added-new : present i (runs w) ≡ false → full w ≡ false → addedValid w i row ≡ accepts (encode (length w) (samples w) (runsWith w i row))
-  unfolding addedValid _⊳_
-  added-new e q = rw (e, q)
+      pub held-stands : verdict r ≡ asked (check13 w d) → r ≡ Accepted → StandsAt w d i
+      held-stands e q = subst (Spotted w d i) (sym (spot-present t s) ∙ not-false _ (line-passed 13 (not (present d (runs w))) r e q)) s
 
 -- ---- opening
 
 module _ (n : ℕ) (w : List ℕ) (r : Answer) (e : verdict r ≡ openChecks n w ⊳ accepted) where
   pub opened-stops : (k p : ℕ) → r ≡ Refused k p → opened n w ≡ refusal r w
   unfolding opened openChecks
-  opened-stops k p q = outcome-stops r (openChecks n w) [] e w (encode (length w) n []) k p q
+  opened-stops = outcome-stops r (openChecks n w) [] e w (encode (length w) n [])
 
   pub opened-goes : r ≡ Accepted → opened n w ≡ accepts (encode (length w) n [])
   unfolding opened openChecks _⊳_
-  opened-goes q = outcome-goes r (openChecks n w) [] e w (encode (length w) n []) q
+  opened-goes = outcome-goes r (openChecks n w) [] e w (encode (length w) n [])
 
 -- ---- a study that was handed in
 

@@ -12,5 +12,5 @@ abbrev pub givenChecks : ℕ → ℕ → List ℕ → List Check
 givenChecks n i row = check3 n row ∷ check4 i ∷ rowChecks n row
 
 -- what is left of adding once these have passed
-unfoldable pub addedValid : List ℕ → ℕ → List ℕ → Outcome
+abbrev pub addedValid : List ℕ → ℕ → List ℕ → Outcome
 addedValid w i row = outcome (check11 w i ∷ check12 w ∷ []) w (encode (length w) (samples w) (runsWith w i row))

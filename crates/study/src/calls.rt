@@ -1,14 +1,14 @@
 // Opening, adding and withdrawing. The inner calls ask for a well-formed study and do not look it over again.
+use crate::checks::identifier_free;
 use crate::checks::identifier_given;
+use crate::checks::identifier_in_force;
 use crate::checks::room_given;
+use crate::checks::room_left;
 use crate::checks::run_given;
 use crate::checks::study_given;
 use judge::Answer;
-use judge::Refusal;
-use slots::Spot;
 use slots::close_run;
 use slots::find_slot;
-use slots::is_full;
 use slots::put_run;
 use slots::samples;
 use slots::start;
@@ -39,13 +39,16 @@ fn add_valid(words: &mut [u16], id: u16, row: &[u16]) -> Answer
     ensures answer { λ r. ⌜ verdict r ≡ addedValid (now (words .entry)) id (now (row .entry)) .verdict ⌝ }
     ensures words { λ _. ⌜ now (words .exit) ≡ addedValid (now (words .entry)) id (now (row .entry)) .words ⌝ }
 {
-    let Spot::Before(at) = find_slot(words, id) else {
-        return Answer::Refused(Refusal::TAKEN, 0);
+    let spot = find_slot(words, id);
+    let free = identifier_free(spot);
+    let Answer::Accepted = free else {
+        return free;
     };
-    if is_full(words) {
-        return Answer::Refused(Refusal::FULL, 0);
-    }
-    put_run(words, at, id, row);
+    let room = room_left(words);
+    let Answer::Accepted = room else {
+        return room;
+    };
+    put_run(words, spot.at, id, row);
     Answer::Accepted
 }
 
@@ -72,10 +75,12 @@ pub fn withdraw_formed(words: &mut [u16], id: u16) -> Answer
     let Answer::Accepted = a else {
         return a;
     };
-    let Spot::At(at) = find_slot(words, id) else {
-        return Answer::Refused(Refusal::ABSENT, 0);
+    let spot = find_slot(words, id);
+    let a = identifier_in_force(spot);
+    let Answer::Accepted = a else {
+        return a;
     };
-    close_run(words, at);
+    close_run(words, spot.at);
     Answer::Accepted
 }
 

@@ -1,11 +1,9 @@
 -- `study::checks::room_given` answers the checks of opening. Assumes nothing.
-use mathlib.Core.Path.{sym, _∙_}
+use mathlib.Core.Path.{_∙_}
 use denote.Ref.{now}
-use mathlib.Core.List.{[], _∷_}
-use Rattle.trees.specs.Checks.{check1}
 use Rattle.runs.specs.Calls.{check3Open, openChecks}
-use Rattle.study.proofs.CallLaws.{one-check, stops, goes}
-use Rattle.judge.proofs.Laws.{passed1-most}
+use Rattle.study.proofs.CallLaws.{one-check}
+use Rattle.judge.proofs.Laws.{stops, goes, passed1-most}
 use borrow.Author.Needs.{needs}
 use Rattle.study.proofs.checks.room_given.Statement.{statement}
 use Rattle.study.proofs.checks.room_given.Tie as tie
@@ -22,12 +20,8 @@ enum-told-2 c = search needs
 returns : tie.Need-returns
 unfolding openChecks
 returns c =
-    let st : tie.Start = search needs in
-    let a = st .args in
-    let w = now (a .words) in
     let g : tie.After-samples = search needs in
-    sym (stops _ (check1 (a .n) ∷ []) (check3Open (a .n) w ∷ []) (one-check (g .samples .result) (check1 (a .n)) (g .samples .ensures)) _ _
-    (c .enum-told2 .given .1))
+    stops _ _ (g .samples .ensures) _ _ _ (c .enum-told2 .given .1)
 
 capacity-requires : tie.Need-capacity-requires
 capacity-requires c κs =
@@ -45,13 +39,11 @@ unfolding openChecks
 returns-2 c =
     let st : tie.Start = search needs in
     let a = st .args in
-    let w = now (a .words) in
     let g : tie.After-samples = search needs in
     let t : tie.After-enum-told = search needs in
     let p : tie.After-capacity = search needs in
-    one-check (c .line .result) (check3Open (a .n) w) (rw (← p .capacity .ensures) (c .line .ensures))
-    ∙ sym (goes _ (check1 (a .n) ∷ []) (check3Open (a .n) w ∷ []) (one-check (g .samples .result) (check1 (a .n)) (g .samples .ensures))
-    (t .enum-told .given .1))
+    one-check (c .line .result) (check3Open (a .n) (now (a .words))) (rw (← p .capacity .ensures) (c .line .ensures))
+    ∙ goes _ _ (g .samples .ensures) _ (t .enum-told .given .1)
 
 pub room-given-spec : {M : Type 1} → statement M
 room-given-spec =

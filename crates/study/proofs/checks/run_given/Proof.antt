@@ -1,11 +1,7 @@
 -- `study::checks::run_given` answers checks 3, 4 and 5 to 10. Assumes nothing.
-use mathlib.Core.Path.{sym, _∙_}
+use mathlib.Core.Path.{_∙_}
 use denote.Ref.{now}
-use mathlib.Core.List.{[], _∷_}
-use Rattle.trees.specs.Checks.{check3, rowChecks}
-use Rattle.runs.specs.Calls.{check4}
-use Rattle.study.proofs.CallLaws.{one-check, stops, goes}
-use Rattle.judge.proofs.Laws.{passed3}
+use Rattle.judge.proofs.Laws.{stops, goes, passed3}
 use borrow.Author.Needs.{needs}
 use Rattle.study.proofs.checks.run_given.Statement.{statement}
 use Rattle.study.proofs.checks.run_given.Tie as tie
@@ -21,12 +17,8 @@ enum-told-2 c = search needs
 
 returns : tie.Need-returns
 returns c =
-    let st : tie.Start = search needs in
-    let a = st .args in
-    let row = now (a .row) in
     let g : tie.After-words = search needs in
-    sym (stops _ (check3 (a .n) row ∷ []) (check4 (a .id) ∷ rowChecks (a .n) row)
-    (one-check (g .words .result) (check3 (a .n) row) (g .words .ensures)) _ _ (c .enum-told2 .given .1))
+    stops _ _ (g .words .ensures) _ _ _ (c .enum-told2 .given .1)
 
 identifier-given-requires : tie.Need-identifier-given-requires
 identifier-given-requires c κs = search needs
@@ -39,16 +31,10 @@ enum-told-4 c = search needs
 
 returns-2 : tie.Need-returns-2
 returns-2 c =
-    let st : tie.Start = search needs in
-    let a = st .args in
-    let row = now (a .row) in
     let g : tie.After-words = search needs in
     let i : tie.After-identifier-given = search needs in
     let t : tie.After-enum-told = search needs in
-    sym (goes _ (check3 (a .n) row ∷ []) (check4 (a .id) ∷ rowChecks (a .n) row)
-    (one-check (g .words .result) (check3 (a .n) row) (g .words .ensures)) (t .enum-told .given .1)
-    ∙ stops _ (check4 (a .id) ∷ []) (rowChecks (a .n) row)
-    (one-check (i .identifier-given .result) (check4 (a .id)) (i .identifier-given .ensures)) _ _ (c .enum-told4 .given .1))
+    stops _ _ (i .identifier-given .ensures) _ _ _ (c .enum-told4 .given .1) ∙ goes _ _ (g .words .ensures) _ (t .enum-told .given .1)
 
 check-row-requires : tie.Need-check-row-requires
 check-row-requires c κs =
@@ -61,17 +47,11 @@ check-row-requires c κs =
 
 returns-3 : tie.Need-returns-3
 returns-3 c =
-    let st : tie.Start = search needs in
-    let a = st .args in
-    let row = now (a .row) in
     let g : tie.After-words = search needs in
     let i : tie.After-identifier-given = search needs in
     let t : tie.After-enum-told = search needs in
     let u : tie.After-enum-told3 = search needs in
-    c .check-row .ensures ∙ sym (goes _ (check3 (a .n) row ∷ []) (check4 (a .id) ∷ rowChecks (a .n) row)
-    (one-check (g .words .result) (check3 (a .n) row) (g .words .ensures)) (t .enum-told .given .1)
-    ∙ goes _ (check4 (a .id) ∷ []) (rowChecks (a .n) row)
-    (one-check (i .identifier-given .result) (check4 (a .id)) (i .identifier-given .ensures)) (u .enum-told3 .given .1))
+    c .check-row .ensures ∙ goes _ _ (i .identifier-given .ensures) _ (u .enum-told3 .given .1) ∙ goes _ _ (g .words .ensures) _ (t .enum-told .given .1)
 
 pub run-given-spec : {M : Type 1} → statement M
 run-given-spec =
