@@ -53,7 +53,8 @@ placed-moved b d (c ∷ cs) f k p (later e g) = placed-moved b d cs (λ j q y. f
 
 pub row-placed : (n : ℕ) (r : List ℕ) → fewestSamples ≤ n → Placed (rowWords n) (rowChecks n r)
 unfolding rowChecks
-row-placed n r h = placed-line b 5 (outside (n + 1) (b - 1) (nodes r)) _ (omega arith) (λ e. rest (outside-not (n + 1) (b - 1) (nodes r) (line-passes 5 _ e) .1))
+row-placed n r h = placed-line b 5 (outside (n + 1) (b - 1) (nodes r)) _ (omega arith)
+    (λ e. rest (outside-not (n + 1) (b - 1) (nodes r) (line-passes 5 _ e) .1))
   where
     b : ℕ
     b = rowWords n
