@@ -18,6 +18,7 @@ use Rattle.file.specs.declared.File.{File}
 use Rattle.file.specs.declared.File.the-variants.{Bad, Good}
 use Rattle.listing.specs.Listing.{Listed, tree, studyWords, unless, firstRefused, slotCall, reports, addsAndReports}
 use Rattle.listing.specs.Listing.{listedFile, listedOf, listed}
+use Rattle.listing.specs.SlotLaws.{fileCalls, fileStudy}
 
 -- ---- only calls that are accepted lead to a tree
 
@@ -59,13 +60,6 @@ module _ (n k : ℕ) (row support : List ℕ) where
       (rw (t .0) (s .0), s .1)
 
 -- ---- a listed tree
-
--- the file's slots as adds, and the study that was given them
-abbrev pub fileCalls : List ℕ → ℕ → ℕ → List Call
-fileCalls bytes n k = tabulate k (slotCall bytes n) 0
-
-abbrev pub fileStudy : List ℕ → ℕ → ℕ → List ℕ
-fileStudy bytes n k = studyAfter n (zeros studyWords) (fileCalls bytes n k)
 
 -- the study is opened, takes each slot and is reported; the rows are the report's
 pub record Tree (bytes : List ℕ) (n k : ℕ) (row support : List ℕ) : Type 0 where
