@@ -1,8 +1,9 @@
 -- A listed tree is the report of the study that was opened and took every slot of the file, in its order. Assumes nothing.
 use Prim.Native.Nat.{ℕ, suc}
-use mathlib.Core.Path.{_≡_, refl, _∙_}
+use mathlib.Core.Path.{_≡_, refl, sym, _∙_}
+use mathlib.Core.Logic.{_↔_}
 use mathlib.Core.List.{List, [], _∷_}
-use mathlib.Core.Bool.{true}
+use mathlib.Core.Bool.{true, true≢false}
 use native.Mathlib.Omega.{arith}
 use Rattle.trees.specs.Lists.{Place, nowhere, at, tabulate, zeros}
 use Rattle.trees.specs.Checks.{Verdict, accepted, refused, counted, Check, orElse, _⊳_, rowWords}
@@ -13,12 +14,12 @@ use Rattle.runs.specs.Calls.{opened, added, withdrawn, openChecks, addChecks, w
 use Rattle.runs.specs.Histories.{Call, add, withdraw, called, answers, after, studyAfter}
 use Rattle.runs.specs.Reports.{reported, reportChecks}
 use Rattle.file.specs.Files.{fileSamples, fileRuns, fileOf}
-use Rattle.file.specs.FileLaws.{good-file}
+use Rattle.file.specs.FileLaws.{Sound, good-file, sound-good}
 use Rattle.file.specs.declared.File.{File}
 use Rattle.file.specs.declared.File.the-variants.{Bad, Good}
 use Rattle.listing.specs.Listing.{Listed, tree, studyWords, unless, firstRefused, slotCall, reports, addsAndReports}
 use Rattle.listing.specs.Listing.{listedFile, listedOf, listed}
-use Rattle.listing.specs.SlotLaws.{fileCalls, fileStudy}
+use Rattle.listing.specs.SlotLaws.{fileCalls, fileStudy, Takes}
 
 -- ---- only calls that are accepted lead to a tree
 
@@ -61,19 +62,20 @@ module _ (n k : ℕ) (row support : List ℕ) where
 
 -- ---- a listed tree
 
--- the study is opened, takes each slot and is reported; the rows are the report's
+-- the file is good, the study is opened, takes each slot and is reported; the rows are the report's
 pub record Tree (bytes : List ℕ) (n k : ℕ) (row support : List ℕ) : Type 0 where
+  pub good : Sound bytes
   pub samples : n ≡ fileSamples bytes
   pub count : k ≡ fileRuns bytes
   pub opens : opened n (zeros studyWords) .verdict ≡ accepted
-  pub takes : every isAccepted (answers (opened n (zeros studyWords) .words) (fileCalls bytes n k)) ≡ true
+  pub takes : Takes bytes n k
   pub report : reported majority (fileStudy bytes n k) (zeros (rowWords n)) (zeros (rowWords n)) .verdict ≡ accepted
   pub agreed : row ≡ reported majority (fileStudy bytes n k) (zeros (rowWords n)) (zeros (rowWords n)) .agreedRow
   pub supports : support ≡ reported majority (fileStudy bytes n k) (zeros (rowWords n)) (zeros (rowWords n)) .supportRow
 
-pub listed-tree : (bytes : List ℕ) (n k : ℕ) (row support : List ℕ) → listed bytes ≡ tree n k row support → Tree bytes n k row support
+tree-to : (bytes : List ℕ) (n k : ℕ) (row support : List ℕ) → listed bytes ≡ tree n k row support → Tree bytes n k row support
 unfolding listed listedFile addsAndReports reports opened reported
-listed-tree bytes n k row support e = go (fileOf bytes) refl e
+tree-to bytes n k row support e = go (fileOf bytes) refl e
   where
     go : (f : File) → fileOf bytes ≡ f → listedOf bytes f ≡ tree n k row support → Tree bytes n k row support
     go Bad p q = let z : _≡_ {A = ℕ} 0 1 = cc in absurd (omega arith)
@@ -89,4 +91,36 @@ listed-tree bytes n k row support e = go (fileOf bytes) refl e
         let ek : j ≡ k = cc in
         let er : row ≡ reported majority w x x .agreedRow = cc in
         let es : support ≡ reported majority w x x .supportRow = cc in
-        rw (← en, ← ek) record { samples = g .0; count = g .1; opens = a .0; takes = b .0; report = d .0; agreed = er; supports = es }
+        rw (← en, ← ek)
+          record { good = g .2; samples = g .0; count = g .1; opens = a .0; takes = b .0; report = d .0; agreed = er; supports = es }
+
+-- no refusal among the slots' answers
+first-none : (vs : List Verdict) (slot : ℕ) (next : Listed) → every isAccepted vs ≡ true → firstRefused vs slot next ≡ next
+unfolding firstRefused every
+first-none [] slot next e = refl
+first-none (accepted ∷ vs) slot next e = first-none vs (suc slot) next e
+first-none (refused a b ∷ vs) slot next e = absurd (true≢false (sym e))
+first-none (counted a b c ∷ vs) slot next e = absurd (true≢false (sym e))
+
+-- a good file whose slots are all taken comes to its report
+reports-whole : (bytes : List ℕ) → Sound bytes → opened (fileSamples bytes) (zeros studyWords) .verdict ≡ accepted
+    → Takes bytes (fileSamples bytes) (fileRuns bytes)
+    → listed bytes ≡ reports (fileSamples bytes) (fileRuns bytes) (fileStudy bytes (fileSamples bytes) (fileRuns bytes))
+unfolding listed listedFile addsAndReports
+reports-whole bytes s o t =
+    let n = fileSamples bytes in
+    let k = fileRuns bytes in
+    rw (sound-good bytes s, o) (first-none (answers (opened n (zeros studyWords) .words) (fileCalls bytes n k)) 0 _ t)
+
+-- a tree is listed exactly if this is so
+pub listed-tree : (bytes : List ℕ) (n k : ℕ) (row support : List ℕ) → (listed bytes ≡ tree n k row support) ↔ Tree bytes n k row support
+unfolding reports
+listed-tree bytes n k row support = (tree-to bytes n k row support, from)
+  where
+    from : Tree bytes n k row support → listed bytes ≡ tree n k row support
+    from t =
+        let w = fileStudy bytes n k in
+        let whole : listed bytes ≡ reports n k w = rw (t .samples, t .count)
+          (reports-whole bytes (t .good) (rw (t .samples) at (t .opens)) (rw (t .samples, t .count) at (t .takes))) in
+        let last : reports n k w ≡ tree n k row support = rw (t .report, t .agreed, t .supports) refl in
+        whole ∙ last
