@@ -1,25 +1,38 @@
 -- A listed tree is the report of the study that was opened and took every slot of the file, in its order. Assumes nothing.
-use Prim.Native.Nat.{ℕ, suc}
-use mathlib.Core.Path.{_≡_, refl, sym, _∙_}
-use mathlib.Core.Logic.{_↔_}
+use Prim.Native.Nat.{ℕ, zero, suc, _+_, _<_}
+use mathlib.Core.Path.{_≡_, refl, sym, ap, _∙_}
+use mathlib.Core.Logic.{_↔_, _⊎_, inl, inr, ⊎-elim}
 use mathlib.Core.List.{List, [], _∷_}
-use mathlib.Core.Bool.{true, true≢false}
+use mathlib.Core.Bool.{Bool, true, false, true≢false, cond}
+use native.Mathlib.Nat.{add-zero}
 use native.Mathlib.Omega.{arith}
+use lib.Dec.{eqb}
+use lib.ListN.{length}
+use borrow.Author.Tests.{eqb-true, eq-eqb}
 use Rattle.trees.specs.Lists.{Place, nowhere, at, tabulate, zeros}
-use Rattle.trees.specs.Checks.{Verdict, accepted, refused, counted, Check, orElse, _⊳_, rowWords}
+use Rattle.trees.specs.Checks.{Verdict, accepted, refused, counted, Check, orElse, _⊳_, rowWords, outside}
 use Rattle.trees.specs.Valid.{isAccepted}
 use Rattle.trees.specs.Reporting.{majority}
+use Rattle.trees.specs.BoolLaws.{and-l, and-r, decide}
+use Rattle.trees.specs.CheckLaws.{outside-not}
+use Rattle.trees.specs.ListLaws.{length-zeros}
+use Rattle.trees.specs.ValidLaws.{accepted-to}
 use Rattle.runs.specs.Runs.{every}
+use Rattle.runs.specs.Words.{inForce}
 use Rattle.runs.specs.Calls.{opened, added, withdrawn, openChecks, addChecks, withdrawChecks}
 use Rattle.runs.specs.Histories.{Call, add, withdraw, called, answers, after, studyAfter}
-use Rattle.runs.specs.Reports.{reported, reportChecks}
-use Rattle.file.specs.Files.{fileSamples, fileRuns, fileOf}
-use Rattle.file.specs.FileLaws.{Sound, good-file, sound-good}
+use Rattle.runs.specs.Reports.{reported, reportChecks, reportFormedChecks}
+use Rattle.runs.specs.FormedLaws.{formed-from}
+use Rattle.runs.specs.CallLaws.{Kept, opened-kept, opened-none}
+use Rattle.runs.specs.WordLaws.{length-runs}
+use Rattle.file.specs.Files.{fileSamples, fileRuns, badFile, fileOf}
+use Rattle.file.specs.FileLaws.{Sound, not-bad, good-file, sound-good, bad-file}
 use Rattle.file.specs.declared.File.{File}
 use Rattle.file.specs.declared.File.the-variants.{Bad, Good}
-use Rattle.listing.specs.Listing.{Listed, tree, studyWords, unless, firstRefused, slotCall, reports, addsAndReports}
+use Rattle.listing.specs.Listing.{Listed, refusal, tree, studyWords, unless, firstRefused, slotCall, reports, addsAndReports}
 use Rattle.listing.specs.Listing.{listedFile, listedOf, listed}
-use Rattle.listing.specs.SlotLaws.{fileCalls, fileStudy, Takes}
+use Rattle.listing.specs.ListingLaws.{listed-bad}
+use Rattle.listing.specs.SlotLaws.{fileCalls, fileStudy, Takes, Fit, Bytes, study-opens, study-formed, study-count}
 
 -- ---- only calls that are accepted lead to a tree
 
@@ -124,3 +137,149 @@ listed-tree bytes n k row support = (tree-to bytes n k row support, from)
           (reports-whole bytes (t .good) (rw (t .samples) at (t .opens)) (rw (t .samples, t .count) at (t .takes))) in
         let last : reports n k w ≡ tree n k row support = rw (t .report, t .agreed, t .supports) refl in
         whole ∙ last
+
+-- ---- a listed refusal
+
+-- slot j is the first that is not taken: the study that took those before it refuses it
+pub record Stops (bytes : List ℕ) (r j p : ℕ) : Type 0 where
+  pub within : j < fileRuns bytes
+  pub takes : Takes bytes (fileSamples bytes) j
+  pub refuses : called (fileStudy bytes (fileSamples bytes) j) (slotCall bytes (fileSamples bytes) j) .verdict ≡ refused r p
+
+-- When a file is refused with r at slot j and place p, by RULES 7.5: a bad file; an n that breaks RULES 1.1; a slot; no slots, and so no runs in force.
+pub data Refuses (bytes : List ℕ) (r j p : ℕ) : Type 0 where
+  bad : badFile bytes ≡ true → r ≡ 15 → j ≡ 0 → p ≡ 0 → Refuses bytes r j p
+  size : Sound bytes → outside 2 512 (fileSamples bytes) ≡ true → r ≡ 1 → j ≡ 0 → p ≡ 0 → Refuses bytes r j p
+  slot : Fit bytes → Stops bytes r j p → Refuses bytes r j p
+  empty : Fit bytes → fileRuns bytes ≡ 0 → r ≡ 14 → j ≡ 0 → p ≡ 0 → Refuses bytes r j p
+
+module _ (r j p : ℕ) where
+  unless-refused : (v : Verdict) (s : ℕ) (next : Listed) → Plain v → unless v s next ≡ refusal r j p
+      → ((v ≡ refused r p) × (j ≡ s)) ⊎ ((v ≡ accepted) × (next ≡ refusal r j p))
+  unfolding Plain
+  unless-refused accepted s next q e = inr (refl, e)
+  unless-refused (refused a b) s next q e = inl (cc, cc)
+  unless-refused (counted a b c) s next q e = absurd q
+
+  module _ (call : ℕ → Call) (next : Listed) where
+    -- one of m slots from s on is the first that is refused, or what comes next is
+    abbrev First : ℕ → ℕ → List ℕ → Type 0
+    First m s w = ((i : ℕ) × (i < m) × (j ≡ s + i) × (every isAccepted (answers w (tabulate i call s)) ≡ true)
+          × (called (after w (tabulate i call s)) (call (s + i)) .verdict ≡ refused r p))
+        ⊎ ((every isAccepted (answers w (tabulate m call s)) ≡ true) × (next ≡ refusal r j p))
+
+    first-to : (m s : ℕ) (w : List ℕ) → firstRefused (answers w (tabulate m call s)) s next ≡ refusal r j p → First m s w
+    unfolding firstRefused answers tabulate every after
+    first-to zero s w e = inr (refl, e)
+    first-to (suc m) s w e =
+        let v = called w (call s) in
+        ⊎-elim (λ h. inl (0, omega arith, h .1 ∙ sym (add-zero s), refl, rw add-zero (h .0)))
+          (λ h. later (h .0) (first-to m (suc s) (v .words) (h .1)))
+          (unless-refused (v .verdict) s _ (called-plain w (call s)) e)
+      where
+        later : called w (call s) .verdict ≡ accepted → First m (suc s) (called w (call s) .words) → First (suc m) s w
+        later a (inl (i, l, q, t, d)) = let e : suc s + i ≡ s + suc i = omega arith in inl (suc i, omega arith, omega arith, rw a t, rw (← e) d)
+        later a (inr h) = inr (rw a (h .0), h .1)
+
+    first-from : (m i s : ℕ) (w : List ℕ) → i < m → every isAccepted (answers w (tabulate i call s)) ≡ true
+        → called (after w (tabulate i call s)) (call (s + i)) .verdict ≡ refused r p → firstRefused (answers w (tabulate m call s)) s next ≡ refusal r (s + i) p
+    unfolding firstRefused answers tabulate every after
+    first-from zero i s w h t d = absurd (omega arith)
+    first-from (suc m) zero s w h t d = rw (add-zero s) (let e : called w (call s) .verdict ≡ refused r p = rw add-zero at d in rw e refl)
+    first-from (suc m) (suc i) s w h t d =
+        let v = called w (call s) in
+        let rest : Bool = every isAccepted (answers (v .words) (tabulate i call (suc s))) in
+        let e : s + suc i ≡ suc s + i = omega arith in
+        rw (accepted-to (v .verdict) (and-l (isAccepted (v .verdict)) rest t), e)
+          (first-from m i (suc s) (v .words) (omega arith) (and-r (isAccepted (v .verdict)) rest t) (rw e at d))
+
+-- RULES 1.1 decides whether the study is opened
+size-refused : (n : ℕ) → outside 2 512 n ≡ true → opened n (zeros studyWords) .verdict ≡ refused 1 0
+unfolding opened openChecks _⊳_
+size-refused n e = rw e refl
+
+-- and RULES 7.5, line 14, whether it is reported
+report-answer : (n : ℕ) (w : List ℕ) → Kept studyWords n w
+    → reported majority w (zeros (rowWords n)) (zeros (rowWords n)) .verdict ≡ cond (eqb (inForce w) 0) (refused 14 0) accepted
+unfolding reported reportChecks reportFormedChecks _⊳_
+report-answer n w h =
+    rw (formed-from w (h .formed), h .same, length-zeros (rowWords n), eq-eqb (rowWords n) (rowWords n) refl) (go (eqb (inForce w) 0))
+  where
+    go : (b : Bool) → orElse 14 (cond b (at 0) nowhere) accepted ≡ cond b (refused 14 0) accepted
+    go true = refl
+    go false = refl
+
+-- each of these is a refusal that is listed
+pub refuses-listed : (bytes : List ℕ) (r j p : ℕ) → Refuses bytes r j p → listed bytes ≡ refusal r j p
+unfolding listed listedFile addsAndReports reports tabulate answers after every
+refuses-listed bytes r j p (bad e er ej ep) = rw (er, ej, ep) (listed-bad bytes (bad-file bytes .1 e))
+refuses-listed bytes r j p (size s e er ej ep) = rw (er, ej, ep, sound-good bytes s, size-refused (fileSamples bytes) e) refl
+refuses-listed bytes r j p (slot f h) =
+    let n = fileSamples bytes in
+    let k = fileRuns bytes in
+    let o = opened n (zeros studyWords) in
+    let e : 0 + j ≡ j = omega arith in
+    rw (sound-good bytes (f .sound), study-opens n (f .least) (f .most))
+      (first-from r j p (slotCall bytes n) (reports n k (fileStudy bytes n k)) k j 0 (o .words) (h .within) (h .takes) (rw e (h .refuses)) ∙ (rw e))
+refuses-listed bytes r j p (empty f e er ej ep) =
+    let n = fileSamples bytes in
+    let o = study-opens n (f .least) (f .most) in
+    let w = opened n (zeros studyWords) .words in
+    let none : inForce w ≡ 0 = sym (length-runs w) ∙ ap length (opened-none n (zeros studyWords) o) in
+    let kept : Kept studyWords n w = rw (length-zeros studyWords) at (opened-kept n (zeros studyWords) o) in
+    let answer = report-answer n w kept in
+    reports-whole bytes (f .sound) o (rw e refl) ∙ (rw (e, answer, none, er, ej, ep) refl)
+
+module _ (bytes : List ℕ) (b : Bytes bytes) where
+  abbrev n : ℕ
+  n = fileSamples bytes
+
+  abbrev k : ℕ
+  k = fileRuns bytes
+
+  -- once every slot is taken there is a report, unless there are none
+  whole-answer : Fit bytes → Takes bytes n k
+      → reported majority (fileStudy bytes n k) (zeros (rowWords n)) (zeros (rowWords n)) .verdict ≡ cond (eqb k 0) (refused 14 0) accepted
+  whole-answer f t = report-answer n (fileStudy bytes n k) (study-formed bytes f b k) ∙ ap (λ (x : ℕ). cond (eqb x 0) (refused 14 0) accepted) (study-count bytes f b k t)
+
+  -- after n and the slots, the report alone can be refused
+  whole-refused : (r j p : ℕ) → Fit bytes → Takes bytes n k → reports n k (fileStudy bytes n k) ≡ refusal r j p → Refuses bytes r j p
+  unfolding reports
+  whole-refused r j p f t e = go (eqb k 0) refl (rw (whole-answer f t) at e)
+    where
+      x : List ℕ
+      x = zeros (rowWords n)
+
+      go : (c : Bool) → eqb k 0 ≡ c
+          → unless (cond c (refused 14 0) accepted) 0 (tree n k (reported majority (fileStudy bytes n k) x x .agreedRow) (reported majority (fileStudy bytes n k) x x .supportRow))
+              ≡ refusal r j p → Refuses bytes r j p
+      go true q d = empty f (eqb-true k 0 q) (cc) (cc) (cc)
+      go false q d = let z : _≡_ {A = ℕ} 0 1 = cc in absurd (omega arith)
+
+  listed-refuses : (r j p : ℕ) → listed bytes ≡ refusal r j p → Refuses bytes r j p
+  unfolding listed listedFile addsAndReports
+  listed-refuses r j p e = go (decide (badFile bytes))
+    where
+      fit : Fit bytes → Refuses bytes r j p
+      fit f =
+          let q : firstRefused (answers (opened n (zeros studyWords) .words) (fileCalls bytes n k)) 0 (reports n k (fileStudy bytes n k)) ≡ refusal r j p
+            = rw (sound-good bytes (f .sound), study-opens n (f .least) (f .most)) at e in
+          ⊎-elim (λ h. slot f (stops h))
+            (λ h. whole-refused r j p f (h .0) (h .1))
+            (first-to r j p (slotCall bytes n) (reports n k (fileStudy bytes n k)) k 0 (opened n (zeros studyWords) .words) q)
+        where
+          stops : (i : ℕ) × (i < k) × (j ≡ 0 + i) × Takes bytes n i × (called (fileStudy bytes n i) (slotCall bytes n (0 + i)) .verdict ≡ refused r p) → Stops bytes r j p
+          stops (i, l, d, t, v) = let q : 0 + i ≡ i = omega arith in
+              rw (d ∙ q) (record { within = l; takes = t; refuses = rw q at v })
+
+      good : Sound bytes → (outside 2 512 n ≡ true) ⊎ (outside 2 512 n ≡ false) → Refuses bytes r j p
+      good s (inl o) = let q : refusal 1 0 0 ≡ refusal r j p = rw (sound-good bytes s, size-refused n o) at e in size s o (cc) (cc) (cc)
+      good s (inr o) = let q = outside-not 2 512 n o in fit (record { sound = s; least = q .0; most = q .1 })
+
+      go : (badFile bytes ≡ true) ⊎ (badFile bytes ≡ false) → Refuses bytes r j p
+      go (inl x) = let q : refusal 15 0 0 ≡ refusal r j p = sym (listed-bad bytes (bad-file bytes .1 x)) ∙ e in bad x (cc) (cc) (cc)
+      go (inr x) = good (not-bad bytes x) (decide (outside 2 512 n))
+
+  -- RULES 7.5, 9.7: `refused r j p` is listed exactly for one of these reasons
+  pub listed-refused : (r j p : ℕ) → (listed bytes ≡ refusal r j p) ↔ Refuses bytes r j p
+  listed-refused r j p = (listed-refuses r j p, refuses-listed bytes r j p)
