@@ -1,30 +1,32 @@
 -- A listed tree is the report of the study that was opened and took every slot of the file, in its order. Assumes nothing.
 use Prim.Native.Nat.{ℕ, zero, suc, _+_, _<_}
-use mathlib.Core.Path.{_≡_, refl, sym, ap, _∙_}
+use mathlib.Core.Path.{_≡_, refl, sym, ap, subst, _∙_}
 use mathlib.Core.Logic.{_↔_, _⊎_, inl, inr, ⊎-elim}
-use mathlib.Core.List.{List, [], _∷_}
+use mathlib.Core.List.{List, [], _∷_, _++_, List·Memᴰ, List·Memᴰ·head, List·Memᴰ·tail, Memᴰ·append-left, Memᴰ·append-right}
 use mathlib.Core.Bool.{Bool, true, false, true≢false, cond}
 use native.Mathlib.Nat.{add-zero}
 use native.Mathlib.Omega.{arith}
 use lib.Dec.{eqb}
 use lib.ListN.{length}
-use borrow.Author.Tests.{eqb-true, eq-eqb}
+use borrow.Author.Tests.{eqb-true, eq-eqb, ne-eqb}
 use Rattle.trees.specs.Lists.{Place, nowhere, at, tabulate, zeros}
 use Rattle.trees.specs.Checks.{Verdict, accepted, refused, counted, Check, orElse, _⊳_, rowWords, outside}
 use Rattle.trees.specs.Valid.{isAccepted}
-use Rattle.trees.specs.Reporting.{majority}
+use Rattle.trees.specs.Reporting.{majority, agreed, supports}
+use Rattle.trees.specs.ChainLaws.{Passed, Given, here, later, numbers}
 use Rattle.trees.specs.BoolLaws.{and-l, and-r, decide}
 use Rattle.trees.specs.CheckLaws.{outside-not}
 use Rattle.trees.specs.ListLaws.{length-zeros}
 use Rattle.trees.specs.ValidLaws.{accepted-to}
 use Rattle.runs.specs.Runs.{every}
-use Rattle.runs.specs.Words.{inForce}
+use Rattle.runs.specs.Words.{samples, inForce, runs}
 use Rattle.runs.specs.Calls.{opened, added, withdrawn, openChecks, addChecks, withdrawChecks}
 use Rattle.runs.specs.Histories.{Call, add, withdraw, called, answers, after, studyAfter}
 use Rattle.runs.specs.Reports.{reported, reportChecks, reportFormedChecks}
 use Rattle.runs.specs.FormedLaws.{formed-from}
 use Rattle.runs.specs.CallLaws.{Kept, opened-kept, opened-none}
 use Rattle.runs.specs.WordLaws.{length-runs}
+use Rattle.runs.specs.ReportLaws.{reported-rows}
 use Rattle.file.specs.Files.{fileSamples, fileRuns, badFile, fileOf}
 use Rattle.file.specs.FileLaws.{Sound, not-bad, good-file, sound-good, bad-file}
 use Rattle.file.specs.declared.File.{File}
@@ -32,7 +34,9 @@ use Rattle.file.specs.declared.File.the-variants.{Bad, Good}
 use Rattle.listing.specs.Listing.{Listed, refusal, tree, studyWords, unless, firstRefused, slotCall, reports, addsAndReports}
 use Rattle.listing.specs.Listing.{listedFile, listedOf, listed}
 use Rattle.listing.specs.ListingLaws.{listed-bad}
-use Rattle.listing.specs.SlotLaws.{fileCalls, fileStudy, Takes, Fit, Bytes, study-opens, study-formed, study-count}
+use Rattle.listing.specs.Slots.{slotChecks, slotRuns}
+use Rattle.listing.specs.SlotLaws.{fileCalls, fileStudy, Takes, Fit, Bytes, study-opens, study-formed, study-runs, study-count}
+use Rattle.listing.specs.SlotLaws.{slot-refused, slots-taken, slot-numbers}
 
 -- ---- only calls that are accepted lead to a tree
 
@@ -230,6 +234,11 @@ refuses-listed bytes r j p (empty f e er ej ep) =
     let answer = report-answer n w kept in
     reports-whole bytes (f .sound) o (rw e refl) ∙ (rw (e, answer, none, er, ej, ep) refl)
 
+-- a number is given only by a check that has it
+given-number : (cs : List Check) (r p : ℕ) → Given r p cs → List·Memᴰ r (numbers cs)
+given-number (c ∷ cs) r p (here a f) = List·Memᴰ·head (sym a)
+given-number (c ∷ cs) r p (later f g) = List·Memᴰ·tail (given-number cs r p g)
+
 module _ (bytes : List ℕ) (b : Bytes bytes) where
   abbrev n : ℕ
   n = fileSamples bytes
@@ -283,3 +292,56 @@ module _ (bytes : List ℕ) (b : Bytes bytes) where
   -- RULES 7.5, 9.7: `refused r j p` is listed exactly for one of these reasons
   pub listed-refused : (r j p : ℕ) → (listed bytes ≡ refusal r j p) ↔ Refuses bytes r j p
   listed-refused r j p = (listed-refuses r j p, refuses-listed bytes r j p)
+
+  -- and which line of RULES 7.5 a slot is refused for, from the file alone: no line applies to the slots before it, and none before this line to it
+  pub stops-exactly : Fit bytes → (r j p : ℕ) → j < k
+      → Stops bytes r j p ↔ (((i : ℕ) → i < j → Passed (slotChecks bytes n i)) × Given r p (slotChecks bytes n j))
+  stops-exactly f r j p h = (
+    λ s. (slots-taken bytes f b j (omega arith) .0 (s .takes), slot-refused bytes f b j r p (s .takes) h .0 (s .refuses)),
+    λ g. let t = slots-taken bytes f b j (omega arith) .1 (g .0) in record { within = h; takes = t; refuses = slot-refused bytes f b j r p t h .1 (g .1) },
+  )
+
+  -- 2, 3 and 13 are never listed
+  pub listed-numbers : (r j p : ℕ) → listed bytes ≡ refusal r j p
+      → List·Memᴰ r (1 ∷ 4 ∷ 5 ∷ 6 ∷ 7 ∷ 8 ∷ 9 ∷ 10 ∷ 11 ∷ 12 ∷ 14 ∷ 15 ∷ [])
+  listed-numbers r j p e = go (listed-refuses r j p e)
+    where
+      slots : List ℕ
+      slots = 4 ∷ 5 ∷ 6 ∷ 7 ∷ 8 ∷ 9 ∷ 10 ∷ 11 ∷ 12 ∷ []
+
+      go : Refuses bytes r j p → List·Memᴰ r (1 ∷ (slots ++ (14 ∷ 15 ∷ [])))
+      go (bad x er ej ep) = List·Memᴰ·tail (Memᴰ·append-right slots (List·Memᴰ·tail (List·Memᴰ·head er)))
+      go (size s o er ej ep) = List·Memᴰ·head er
+      go (slot f h) = List·Memᴰ·tail (Memᴰ·append-left (14 ∷ 15 ∷ []) (subst (List·Memᴰ r) (slot-numbers bytes n j)
+        (given-number (slotChecks bytes n j) r p (stops-exactly f r j p (h .within) .0 h .1))))
+      go (empty f x er ej ep) = List·Memᴰ·tail (Memᴰ·append-right slots (List·Memᴰ·head er))
+
+  -- a good file with slots, to none of which a line applies, is listed as the agreed tree of its runs
+  pub listed-whole : Fit bytes → 0 < k → ((j : ℕ) → j < k → Passed (slotChecks bytes n j))
+      → listed bytes ≡ tree n k (agreed majority n (slotRuns bytes n k)) (supports majority n (slotRuns bytes n k))
+  listed-whole f some g = listed-tree bytes n k _ _ .1 (record {
+    good = f .sound;
+    samples = refl;
+    count = refl;
+    opens = study-opens n (f .least) (f .most);
+    takes = takes;
+    report = report;
+    agreed = sym (rows .0 ∙ (rw (same, study-runs bytes f b k takes)));
+    supports = sym (rows .1 ∙ (rw (same, study-runs bytes f b k takes)));
+  })
+    where
+      x : List ℕ
+      x = zeros (rowWords n)
+
+      takes : Takes bytes n k
+      takes = slots-taken bytes f b k (omega arith) .1 g
+
+      same : samples (fileStudy bytes n k) ≡ n
+      same = study-formed bytes f b k .same
+
+      report : reported majority (fileStudy bytes n k) x x .verdict ≡ accepted
+      report = whole-answer f takes ∙ (rw (ne-eqb k 0 (λ e. omega arith)))
+
+      rows : (reported majority (fileStudy bytes n k) x x .agreedRow ≡ agreed majority (samples (fileStudy bytes n k)) (runs (fileStudy bytes n k)))
+          × (reported majority (fileStudy bytes n k) x x .supportRow ≡ supports majority (samples (fileStudy bytes n k)) (runs (fileStudy bytes n k)))
+      rows = reported-rows majority (fileStudy bytes n k) x x report
