@@ -4,3 +4,4 @@ pub mod Slots
 pub mod ListingLaws
 pub mod SlotLaws
 pub mod ListedLaws
+pub mod Specimen

@@ -6,13 +6,12 @@ use mathlib.Core.List.{List, [], _∷_, _++_}
 use mathlib.Core.Option.{Option, some}
 use mathlib.Core.Bool.{Bool, true, false, _&&_, _||_, cond, and-assoc, and-true}
 use native.Mathlib.Nat.{le-of-suc-le-suc, eq-or-lt-of-le, le-div-iff-mul-le, mul-assoc, zero-add}
-use native.Mathlib.Numerals.{add-one}
 use native.Mathlib.Omega.{arith}
 use lib.Dec.{eqb, leb}
 use lib.ListN.{length, getD}
 use borrow.Author.Tests.{eqb-true, eq-eqb, le-leb}
 use Rattle.trees.specs.Lists.{tabulate, zeros}
-use Rattle.trees.specs.Checks.{Verdict, accepted, refused, Check, line, _⊳_, rowWords, check3, rowChecks}
+use Rattle.trees.specs.Checks.{accepted, refused, _⊳_, rowWords, check3, rowChecks}
 use Rattle.trees.specs.Valid.{isAccepted}
 use Rattle.trees.specs.Reporting.{Run}
 use Rattle.trees.specs.BoolLaws.{and-l, and-r, and-both, true-eq}
@@ -21,12 +20,12 @@ use Rattle.trees.specs.ChainLaws.{chain-go, Passed, passed-chain, chain-passed,
 use Rattle.trees.specs.ValidLaws.{accepted-to}
 use Rattle.runs.specs.Runs.{every, find, isSome, present}
 use Rattle.runs.specs.Words.{samples, inForce, runs, slotWords, capacity, full, mostIdentifier}
-use Rattle.runs.specs.Calls.{check4, check11, check12, addFormedChecks, addChecks, stores, opened, added}
-use Rattle.runs.specs.Histories.{Call, add, names, identified, called, after, answers, studyAfter}
+use Rattle.runs.specs.Calls.{check4, check11, check12, addFormedChecks, stores, opened, added}
+use Rattle.runs.specs.Histories.{Call, identified, called, after, answers, studyAfter}
 use Rattle.runs.specs.RunLaws.{length-insert}
 use Rattle.runs.specs.WordLaws.{length-runs}
 use Rattle.runs.specs.FormedLaws.{formed-from}
-use Rattle.runs.specs.CallLaws.{Kept, Opens, opened-accepts, opened-none}
+use Rattle.runs.specs.CallLaws.{Kept, opened-accepts, opened-none}
 use Rattle.runs.specs.AddLaws.{added-accepts, added-runs, added-find, added-formed}
 use Rattle.runs.specs.HistoryLaws.{study-kept}
 use Rattle.file.specs.Files.{fileSamples, fileRuns, slotIdentifier, slotRow}
@@ -159,7 +158,8 @@ module _ (bytes : List ℕ) (f : Fit bytes) (b : Bytes bytes) where
       let w = fileStudy bytes n j in
       let a = slotIdentifier bytes n j in
       let row = slotRow bytes n j in
-      rw (study-next bytes n j, added-find w a row (added-accepts w a row .0 (h .1)) (slot-word bytes n j b) i, ← study-named j (h .0) i) (go (eqb i a) (stores (samples w) a row) (find i (runs w)))
+      rw (study-next bytes n j, added-find w a row (added-accepts w a row .0 (h .1)) (slot-word bytes n j b) i, ← study-named j (h .0) i)
+        (go (eqb i a) (stores (samples w) a row) (find i (runs w)))
     where
       go : (c : Bool) (r : Run) (x : Option Run) → isSome (cond c (some r) x) ≡ (c || isSome x)
       go true r x = refl
