@@ -1,5 +1,5 @@
 -- The study once the first slots of a file are taken: its words, its runs, and what the next slot is refused for. Assumes nothing.
-use Prim.Native.Nat.{ℕ, zero, suc, _+_, _*_, _/_, _≤_, _<_}
+use Prim.Native.Nat.{ℕ, zero, suc, _+_, _-_, _*_, _/_, _≤_, _<_}
 use mathlib.Core.Path.{_≡_, refl, sym, ap, subst, _∙_}
 use mathlib.Core.Logic.{_↔_, ⊎-elim}
 use mathlib.Core.List.{List, [], _∷_, _++_}
@@ -19,7 +19,7 @@ use Rattle.trees.specs.ListLaws.{tabulate-add, length-zeros}
 use Rattle.trees.specs.ChainLaws.{chain-go, Passed, passed-chain, chain-passed, Given, chain-given, given-chain, numbers, accepted-other}
 use Rattle.trees.specs.ValidLaws.{accepted-to}
 use Rattle.runs.specs.Runs.{every, find, isSome, present}
-use Rattle.runs.specs.Words.{samples, inForce, runs, slotWords, capacity, full, mostIdentifier}
+use Rattle.runs.specs.Words.{samples, inForce, runs, headerWords, slotWords, capacity, full, mostIdentifier}
 use Rattle.runs.specs.Calls.{check4, check11, check12, addFormedChecks, stores, opened, added}
 use Rattle.runs.specs.Histories.{Call, identified, called, after, answers, studyAfter}
 use Rattle.runs.specs.RunLaws.{length-insert}
@@ -103,7 +103,7 @@ capacity-one : (n : ℕ) → n ≤ 512 → 1 ≤ capacity studyWords n
 unfolding capacity
 capacity-one n h =
     let p : 0 < slotWords n = omega arith in
-    let q : 1 ≤ 32760 / slotWords n = le-div-iff-mul-le p .1 (omega arith) in
+    let q : 1 ≤ (studyWords - headerWords) / slotWords n = le-div-iff-mul-le p .1 (omega arith) in
     omega arith
 
 -- RULES 6.8, 9.2: there is room for a run, whatever n is
@@ -126,9 +126,13 @@ module _ (bytes : List ℕ) (f : Fit bytes) (b : Bytes bytes) where
   opens : opened n (zeros studyWords) .verdict ≡ accepted
   opens = study-opens n (f .least) (f .most)
 
-  -- RULES 9.2: the study is well formed, over the file's n, and has 32,768 words
-  pub study-formed : (j : ℕ) → Kept 32768 n (fileStudy bytes n j)
+  -- the study is well formed, over the file's n
+  pub study-formed : (j : ℕ) → Kept studyWords n (fileStudy bytes n j)
   study-formed j = rw (length-zeros studyWords) at (study-kept n (zeros studyWords) (fileCalls bytes n j) opens (calls-words bytes n j 0 b))
+
+  -- RULES 9.2: it has 32,768 words
+  pub study-long : (j : ℕ) → length (fileStudy bytes n j) ≡ 32768
+  study-long j = omega (arith, study-formed j .size)
 
   -- the slots that were taken are in force, each in standard numbering
   pub study-runs : (j : ℕ) → Takes bytes n j → runs (fileStudy bytes n j) ≡ slotRuns bytes n j
@@ -141,14 +145,14 @@ module _ (bytes : List ℕ) (f : Fit bytes) (b : Bytes bytes) where
       let row = slotRow bytes n j in
       rw (study-next bytes n j, added-runs w i row (added-accepts w i row .0 (h .1)) (slot-word bytes n j b), study-formed j .same, study-runs j (h .0))
 
-  length-runs-of : (j : ℕ) → length (slotRuns bytes n j) ≡ j
+  count-runs : (j : ℕ) → length (slotRuns bytes n j) ≡ j
   unfolding slotRuns
-  length-runs-of zero = refl
-  length-runs-of (suc j) = length-insert (stores n (slotIdentifier bytes n j) (slotRow bytes n j)) (slotRuns bytes n j) ∙ ap suc (length-runs-of j)
+  count-runs zero = refl
+  count-runs (suc j) = length-insert (stores n (slotIdentifier bytes n j) (slotRow bytes n j)) (slotRuns bytes n j) ∙ ap suc (count-runs j)
 
   -- as many runs are in force as slots were taken
   pub study-count : (j : ℕ) → Takes bytes n j → inForce (fileStudy bytes n j) ≡ j
-  study-count j t = sym (length-runs (fileStudy bytes n j)) ∙ ap length (study-runs j t) ∙ length-runs-of j
+  study-count j t = sym (length-runs (fileStudy bytes n j)) ∙ ap length (study-runs j t) ∙ count-runs j
 
   study-named : (j : ℕ) → Takes bytes n j → (i : ℕ) → present i (runs (fileStudy bytes n j)) ≡ named bytes n i j
   unfolding after named tabulate find
@@ -171,10 +175,10 @@ module _ (bytes : List ℕ) (f : Fit bytes) (b : Bytes bytes) where
   study-full j t h =
       let w = study-formed j in
       let p : 0 < slotWords n = omega arith in
-      let q : k ≤ 32760 / slotWords n = le-div-iff-mul-le p .1 (omega (arith, f .sound .long, f .sound .most, mul-assoc 2 k (2 * n + 1))) in
-      rw (study-count j t, w .size, w .same) (true-eq (eqb j (capacity 32768 n)) (eqb j 1024)
-        (λ e. eq-eqb j 1024 (omega (arith, eqb-true j (capacity 32768 n) e)))
-        (λ e. eq-eqb j (capacity 32768 n) (omega (arith, eqb-true j 1024 e))))
+      let q : k ≤ (studyWords - headerWords) / slotWords n = le-div-iff-mul-le p .1 (omega (arith, f .sound .long, f .sound .most, mul-assoc 2 k (2 * n + 1))) in
+      rw (study-count j t, w .size, w .same) (true-eq (eqb j (capacity studyWords n)) (eqb j 1024)
+        (λ e. eq-eqb j 1024 (omega (arith, eqb-true j (capacity studyWords n) e)))
+        (λ e. eq-eqb j (capacity studyWords n) (omega (arith, eqb-true j 1024 e))))
 
   -- RULES 7.5: what the next slot is answered, by its own identifier and row and the identifiers before it
   pub slot-answer : (j : ℕ) → Takes bytes n j → j < k → called (fileStudy bytes n j) (slotCall bytes n j) .verdict ≡ slotChecks bytes n j ⊳ accepted
@@ -189,7 +193,7 @@ module _ (bytes : List ℕ) (f : Fit bytes) (b : Bytes bytes) where
         (rw (eq-eqb (length row) (rowWords (samples w)) due))
       ∙ (rw (study-named j t i, study-full j t h, study-formed j .same))
 
-  -- what a number is given for: line R applies at P, and no line before it does
+  -- a number is given at a place exactly if its line applies there, and no line before it does
   pub slot-refused : (j r p : ℕ) → Takes bytes n j → j < k
       → (called (fileStudy bytes n j) (slotCall bytes n j) .verdict ≡ refused r p) ↔ Given r p (slotChecks bytes n j)
   slot-refused j r p t h = (
