@@ -1,6 +1,7 @@
 -- The bytes of a file and its slots, without loss; what a good file is; a text at the front, byte by byte. Assumes nothing.
 use Prim.Native.Nat.{ℕ, suc, _+_, _*_, _^_, _≤_, _<_}
 use mathlib.Core.Path.{_≡_, refl, _∙_}
+use mathlib.Core.Logic.{_↔_}
 use mathlib.Core.List.{List, []}
 use mathlib.Core.Bool.{Bool, true, false, _||_, not, cond}
 use native.Mathlib.Nat.{mul-le-mul, mul-le-mul-right, le-mul-of-pos-right, add-mul, zero-add}
@@ -92,17 +93,16 @@ bad-near bytes e = rw e
 
 -- ---- good files
 
--- What makes a file good.
+-- What makes a file good (RULES 1.5, 9.3), in figures.
 pub record Sound (bytes : List ℕ) : Type 0 where
-  pub least : headBytes ≤ length bytes
-  pub most : length bytes ≤ mostBytes
+  pub least : 9 ≤ length bytes
+  pub most : length bytes ≤ 65529
   pub mark : begins (ascii "ARB") bytes ≡ true
   pub version : fileVersion bytes ≡ 1
-  pub long : length bytes ≡ fileBytes (fileSamples bytes) (fileRuns bytes)
+  pub long : length bytes ≡ 9 + 2 * fileRuns bytes * (2 * fileSamples bytes + 1)
 
--- a file is bad exactly if one of the five fails
 pub not-bad : (bytes : List ℕ) → badFile bytes ≡ false → Sound bytes
-unfolding badFile
+unfolding badFile fileBytes
 not-bad bytes e =
     let far : Bool = outside headBytes mostBytes (length bytes) in
     let other : Bool = not (begins (ascii "ARB") bytes) in
@@ -113,22 +113,26 @@ not-bad bytes e =
     let d = or-none far other (b .0) in
     let l = outside-not headBytes mostBytes (length bytes) (d .0) in
     record {
-      least = l .0;
-      most = l .1;
+      least = omega (arith, l .0);
+      most = omega (arith, l .1);
       mark = not-false (begins (ascii "ARB") bytes) (d .1);
       version = eqb-true (fileVersion bytes) 1 (not-false (eqb (fileVersion bytes) 1) (b .1));
-      long = eqb-true (length bytes) due (not-false (eqb (length bytes) due) (a .1));
+      long = omega (arith, eqb-true (length bytes) due (not-false (eqb (length bytes) due) (a .1)));
     }
 
 pub sound-not-bad : (bytes : List ℕ) → Sound bytes → badFile bytes ≡ false
-unfolding badFile
+unfolding badFile fileBytes
 sound-not-bad bytes s =
     rw (
-      not-outside headBytes mostBytes (length bytes) (s .least) (s .most),
+      not-outside headBytes mostBytes (length bytes) (omega (arith, s .least)) (omega (arith, s .most)),
       s .mark,
       eq-eqb (fileVersion bytes) 1 (s .version),
-      eq-eqb (length bytes) (fileBytes (fileSamples bytes) (fileRuns bytes)) (s .long),
+      eq-eqb (length bytes) (fileBytes (fileSamples bytes) (fileRuns bytes)) (omega (arith, s .long)),
     ) refl
+
+-- a file is bad exactly if one of the five fails
+pub sound-exactly : (bytes : List ℕ) → (badFile bytes ≡ false) ↔ Sound bytes
+sound-exactly bytes = (not-bad bytes, sound-not-bad bytes)
 
 pub good-file : (bytes : List ℕ) (n k : ℕ) → fileOf bytes ≡ Good n k → (n ≡ fileSamples bytes) × (k ≡ fileRuns bytes) × Sound bytes
 unfolding fileOf
@@ -139,6 +143,19 @@ good-file bytes n k e = go (badFile bytes) refl e
     go true p q = let z : _≡_ {A = ℕ} 0 1 = cc in absurd (omega arith)
     go false p q = ((cc), (cc), not-bad bytes p)
 
+pub sound-good : (bytes : List ℕ) → Sound bytes → fileOf bytes ≡ Good (fileSamples bytes) (fileRuns bytes)
+unfolding fileOf
+sound-good bytes s = rw (sound-not-bad bytes s) refl
+
+pub bad-file : (bytes : List ℕ) → (fileOf bytes ≡ Bad) ↔ (badFile bytes ≡ true)
+unfolding fileOf
+bad-file bytes = (go (badFile bytes), λ e. rw e refl)
+  where
+    go : (b : Bool) → cond b Bad (Good (fileSamples bytes) (fileRuns bytes)) ≡ Bad → b ≡ true
+    go true q = refl
+    go false q = let z : _≡_ {A = ℕ} 0 1 = cc in absurd (omega arith)
+
 -- a good file is as long as its n and k say
 pub good-length : (bytes : List ℕ) (n k : ℕ) → fileOf bytes ≡ Good n k → length bytes ≡ fileBytes n k
+unfolding fileBytes
 good-length bytes n k e = let g = good-file bytes n k e in g .2 .long ∙ rw (← g .0, ← g .1) refl

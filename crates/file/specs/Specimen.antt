@@ -2,12 +2,15 @@
 use Prim.Native.Nat.{ℕ, _/_, _%_}
 use mathlib.Core.Path.{_≡_, refl}
 use mathlib.Core.List.{List, [], _∷_, _++_}
-use mathlib.Core.Bool.{true}
-use Rattle.trees.specs.Lists.{tabulate}
+use mathlib.Core.Bool.{true, false}
+use native.Mathlib.Omega.{arith}
+use Rattle.trees.specs.Lists.{tabulate, zeros}
 use Rattle.trees.specs.Case.{row1, row2, row3}
+use Rattle.trees.specs.ListLaws.{length-zeros}
 use Rattle.file.specs.declared.File.the-variants.{Good}
 use Rattle.file.specs.Ascii.{ascii}
 use Rattle.file.specs.Files.{wordAt, fileBytes, begins, badFile, fileOf, slotIdentifier, slotRow}
+use Rattle.file.specs.FileLaws.{sound-not-bad}
 
 -- words as bytes, the low byte in front
 unfoldable pub bytesOf : List ℕ → List ℕ
@@ -21,6 +24,14 @@ input = ascii "ARB" ++ bytesOf ((1 ∷ 5 ∷ 3 ∷ []) ++ (1 ∷ row1) ++ (2 ∷
 pub specimen-file : fileOf input ≡ Good 5 3
 unfolding fileOf badFile begins wordAt fileBytes bytesOf
 specimen-file = refl
+
+-- RULES 1.5: a file of 65,529 bytes is taken, here one with n = 17 and k = 936
+pub specimen-most : badFile (ascii "ARB" ++ bytesOf (1 ∷ 17 ∷ 936 ∷ []) ++ zeros 65520) ≡ false
+unfolding begins wordAt bytesOf
+specimen-most =
+    let long = length-zeros 65520 in
+    sound-not-bad (ascii "ARB" ++ bytesOf (1 ∷ 17 ∷ 936 ∷ []) ++ zeros 65520)
+      (record { least = omega (arith, long); most = omega (arith, long); mark = refl; version = refl; long = omega (arith, long) })
 
 -- with a byte more it is bad (RULES 9.3)
 pub specimen-long : badFile (input ++ (0 ∷ [])) ≡ true
