@@ -9,7 +9,7 @@ use native.Mathlib.Omega.{arith}
 use lib.Dec.{eqb}
 use lib.ListN.{length}
 use borrow.Author.Tests.{eqb-true, eq-eqb, ne-eqb}
-use Rattle.trees.specs.Lists.{Place, nowhere, at, tabulate, zeros}
+use Rattle.trees.specs.Lists.{nowhere, at, tabulate, zeros}
 use Rattle.trees.specs.Checks.{Verdict, accepted, refused, counted, Check, orElse, _⊳_, rowWords, outside}
 use Rattle.trees.specs.Valid.{isAccepted}
 use Rattle.trees.specs.Reporting.{majority, agreed, supports}
