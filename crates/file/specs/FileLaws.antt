@@ -143,17 +143,15 @@ good-file bytes n k e = go (badFile bytes) refl e
     go true p q = let z : _≡_ {A = ℕ} 0 1 = cc in absurd (omega arith)
     go false p q = ((cc), (cc), not-bad bytes p)
 
+-- a sound file is good, with the n and k that stand in it
 pub sound-good : (bytes : List ℕ) → Sound bytes → fileOf bytes ≡ Good (fileSamples bytes) (fileRuns bytes)
 unfolding fileOf
 sound-good bytes s = rw (sound-not-bad bytes s) refl
 
-pub bad-file : (bytes : List ℕ) → (fileOf bytes ≡ Bad) ↔ (badFile bytes ≡ true)
+-- any other file is bad
+pub bad-file : (bytes : List ℕ) → badFile bytes ≡ true → fileOf bytes ≡ Bad
 unfolding fileOf
-bad-file bytes = (go (badFile bytes), λ e. rw e refl)
-  where
-    go : (b : Bool) → cond b Bad (Good (fileSamples bytes) (fileRuns bytes)) ≡ Bad → b ≡ true
-    go true q = refl
-    go false q = let z : _≡_ {A = ℕ} 0 1 = cc in absurd (omega arith)
+bad-file bytes e = rw e refl
 
 -- a good file is as long as its n and k say
 pub good-length : (bytes : List ℕ) (n k : ℕ) → fileOf bytes ≡ Good n k → length bytes ≡ fileBytes n k

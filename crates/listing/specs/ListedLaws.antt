@@ -117,7 +117,7 @@ report-answer n w h =
 -- such a refusal is listed, whatever the numbers are that a file has for bytes
 pub refuses-listed : (bytes : List ℕ) (r j p : ℕ) → Refuses bytes r j p → listed bytes ≡ refusal r j p
 unfolding listed listedFile addsAndReports reports tabulate answers after every
-refuses-listed bytes r j p (bad e er ej ep) = rw (er, ej, ep) (listed-bad bytes (bad-file bytes .1 e))
+refuses-listed bytes r j p (bad e er ej ep) = rw (er, ej, ep) (listed-bad bytes (bad-file bytes e))
 refuses-listed bytes r j p (size s e er ej ep) = rw (er, ej, ep, sound-good bytes s, size-refused (fileSamples bytes) e) refl
 refuses-listed bytes r j p (slot f h) =
     let n = fileSamples bytes in
