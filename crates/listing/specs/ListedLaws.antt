@@ -148,6 +148,10 @@ tree-from bytes n k row support t =
 chain-cases : (cs : List Check) → (cs ⊳ accepted ≡ accepted) ⊎ ((r : ℕ) × (p : ℕ) × (cs ⊳ accepted ≡ refused r p))
 chain-cases cs = chain-holds (λ v. (v ≡ accepted) ⊎ ((r : ℕ) × (p : ℕ) × (v ≡ refused r p))) cs accepted (λ r p g. inr (r, p, refl)) (λ h. inl refl)
 
+report-cases : (w a s : List ℕ) → (reported majority w a s .verdict ≡ accepted) ⊎ ((r : ℕ) × (p : ℕ) × (reported majority w a s .verdict ≡ refused r p))
+unfolding reported
+report-cases w a s = chain-cases (reportChecks w a s)
+
 -- a slot of the first m is not taken
 abbrev Stuck : List ℕ → ℕ → ℕ → Type 0
 Stuck bytes n m =
@@ -192,7 +196,7 @@ comes bytes = go (decide (badFile bytes))
 
 -- a tree is listed exactly if it stands for what the calls leave
 pub listed-tree : (bytes : List ℕ) (n k : ℕ) (row support : List ℕ) → (listed bytes ≡ tree n k row support) ↔ Tree bytes n k row support
-unfolding reports reported
+unfolding reports
 listed-tree bytes n k row support = (λ e. go (comes bytes) e, tree-from bytes n k row support)
   where
     m : ℕ
@@ -231,7 +235,7 @@ listed-tree bytes n k row support = (λ e. go (comes bytes) e, tree-from bytes n
     go (stops r j p h) e = let x = refuses-listed bytes r j p h in let z : _≡_ {A = ℕ} 0 1 = cc in absurd (omega arith)
     go (whole f t) e =
         let x = zeros (rowWords m) in
-        ends f t (chain-cases (reportChecks (fileStudy bytes m l) x x))
+        ends f t (report-cases (fileStudy bytes m l) x x)
           (sym (whole-reports bytes (f .sound) (study-opens m (f .least) (f .most)) t) ∙ e)
 
 -- ---- of a file of bytes
