@@ -122,7 +122,7 @@ uint64_t arb_renumber(size_t n, const uint16_t *row, size_t row_length, uint16_t
 
 /* Comparing: how many groups both rows have, the first alone, and the second alone (RULES 8). Every group counts, those of one
    sample and of all samples among them. Writes nothing.
-   Refusals: 1, 3 for either row, 5 to 10 for the first row, and 5 to 10 for the second with 2n added to the place, that of 5 and 7 too. */
+   Refusals: 1, 3 for either row, then 5 to 10, of `first` and after that of `second`; there 2n is added to every place, that of 5 and 7 too. */
 uint64_t arb_compare(size_t n, const uint16_t *first, size_t first_length, const uint16_t *second, size_t second_length);
 
 #ifdef __cplusplus

@@ -175,7 +175,8 @@ module _ (bytes : List ℕ) (f : Fit bytes) (b : Bytes bytes) where
   study-full j t h =
       let w = study-formed j in
       let p : 0 < slotWords n = omega arith in
-      let q : k ≤ (studyWords - headerWords) / slotWords n = le-div-iff-mul-le p .1 (omega (arith, f .sound .long, f .sound .most, mul-assoc 2 k (2 * n + 1))) in
+      let u : k * slotWords n ≤ studyWords - headerWords = omega (arith, f .sound .long, f .sound .most, mul-assoc 2 k (2 * n + 1)) in
+      let q : k ≤ (studyWords - headerWords) / slotWords n = le-div-iff-mul-le p .1 u in
       rw (study-count j t, w .size, w .same) (true-eq (eqb j (capacity studyWords n)) (eqb j 1024)
         (λ e. eq-eqb j 1024 (omega (arith, eqb-true j (capacity studyWords n) e)))
         (λ e. eq-eqb j (capacity studyWords n) (omega (arith, eqb-true j 1024 e))))
