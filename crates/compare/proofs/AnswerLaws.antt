@@ -1,20 +1,16 @@
 -- How the answers of the checks make the answer of comparing. Assumes nothing.
 use Prim.Native.Nat.{ℕ}
-use mathlib.Core.Path.{_≡_, refl, sym, ap, _∙_}
+use mathlib.Core.Path.{_≡_, sym, ap, _∙_}
 use mathlib.Core.List.{List, map}
-use mathlib.Core.Bool.{Bool, not}
-use lib.ListN.{length}
-use borrow.Author.Tests.{eq-eqb}
-use Rattle.trees.specs.Checks.{Verdict, accepted, refused, counted, Check, line, _⊳_, rowWords, rowChecks, judgeChecks}
+use Rattle.trees.specs.Checks.{Verdict, accepted, refused, Check, _⊳_, rowWords, rowChecks}
 use Rattle.trees.specs.Valid.{Valid}
-use Rattle.trees.specs.RowCalls.{moved, renumberChecks, compareChecks}
-use Rattle.trees.specs.ChainLaws.{chain-append, chain-passed, passed-chain, passed-split, chain-given, given-chain, accepted-other}
-use Rattle.trees.specs.ValidLaws.{passed-valid}
-use Rattle.trees.specs.RowCallLaws.{movedVerdict, chain-moved}
+use Rattle.trees.specs.Comparing.{compared}
+use Rattle.trees.specs.RowCalls.{moved, renumberChecks, compareChecks, comparing}
+use Rattle.trees.specs.ChainLaws.{chain-append, chain-passed, passed-chain, chain-given, given-chain, accepted-other}
+use Rattle.trees.specs.RowCallLaws.{movedVerdict, chain-moved, comparing-accepts}
 use Rattle.judge.specs.declared.Answer.{Answer}
 use Rattle.judge.specs.declared.Answer.the-variants.{Accepted, Refused}
 use Rattle.judge.specs.Verdicts.{verdict}
-use Rattle.row.proofs.AnswerLaws.{first-valid, second-words}
 
 -- ---- a chain that refuses or accepts does so whatever comes after it
 
@@ -27,12 +23,6 @@ module _ (a : Answer) (cs : List Check) (e : verdict a ≡ cs ⊳ accepted) (v :
 
 -- ---- the second row's checks
 
--- a verdict with its place moved is an acceptance only if it was one
-moved-accepted : (d : ℕ) (v : Verdict) → movedVerdict d v ≡ accepted → v ≡ accepted
-moved-accepted d accepted e = refl
-moved-accepted d (refused k p) e = cc
-moved-accepted d (counted a b c) e = cc
-
 -- what a row is answered by itself, with the place moved, is the answer of the second row's checks
 pub place-moved : (n : ℕ) (q : List ℕ) (a b : Answer) → verdict a ≡ rowChecks n q ⊳ accepted → a ≡ b
     → movedVerdict (rowWords n) (verdict b) ≡ map (moved (rowWords n)) (rowChecks n q) ⊳ accepted
@@ -42,17 +32,15 @@ module _ (n : ℕ) (r q : List ℕ) where
   abbrev seconds : List Check
   seconds = map (moved (rowWords n)) (rowChecks n q)
 
-  -- they come behind those that renumbering has
+  -- they come after those that renumbering has
   pub checks-split : (v : Verdict) → compareChecks n r q ⊳ v ≡ renumberChecks n r q ⊳ (seconds ⊳ v)
   unfolding compareChecks renumberChecks
   checks-split v = chain-append (renumberChecks n r q) seconds v
 
   -- rows that pass all of them are valid
   pub both-valid : (a : Answer) → verdict a ≡ compareChecks n r q ⊳ accepted → a ≡ Accepted → Valid n r × Valid n q
-  unfolding compareChecks renumberChecks judgeChecks
-  both-valid a e k =
-      let h = passed-split (renumberChecks n r q) seconds (chain-passed (compareChecks n r q) (sym e ∙ ap verdict k)) in
-      let one = passed-chain (renumberChecks n r q) accepted (h .0) in
-      let two = moved-accepted (rowWords n) _ (sym (chain-moved (rowWords n) (rowChecks n q)) ∙ passed-chain seconds accepted (h .1)) in
-      let e3 = ap (λ (b : Bool). line 3 (not b) .fault) (eq-eqb (length q) (rowWords n) (second-words n r q one)) in
-      (first-valid n r q one, passed-valid n q (h .0 .0, (e3, chain-passed (rowChecks n q) two)))
+  unfolding comparing
+  both-valid a e k = comparing-accepts n r q .0 (passed-chain cs (compared n r q) (chain-passed cs (sym e ∙ ap verdict k)))
+    where
+      cs : List Check
+      cs = compareChecks n r q

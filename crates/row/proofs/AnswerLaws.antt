@@ -7,8 +7,8 @@ use Rattle.trees.specs.Checks.{accepted, _⊳_, asked, rowWords}
 use Rattle.trees.specs.Valid.{Valid}
 use Rattle.trees.specs.Numbering.{renumbered}
 use Rattle.trees.specs.RowCalls.{check3Both, renumberChecks, renumbering}
-use Rattle.trees.specs.ChainLaws.{asked-passes, chain-passed}
-use Rattle.trees.specs.RowCallLaws.{both-lengths, renumbering-valid}
+use Rattle.trees.specs.ChainLaws.{asked-passes}
+use Rattle.trees.specs.RowCallLaws.{both-lengths, renumbering-accepts}
 use Rattle.trees.specs.OutcomeLaws.{outcome-accepted}
 use Rattle.judge.specs.declared.Answer.{Answer}
 use Rattle.judge.specs.declared.Answer.the-variants.{Accepted}
@@ -21,13 +21,9 @@ module _ (n : ℕ) (r q : List ℕ) where
   -- ---- the row is accepted
 
   module _ (e : renumberChecks n r q ⊳ accepted ≡ accepted) where
-    pub first-valid : Valid n r
+    pub both-given : Valid n r × (length q ≡ rowWords n)
     unfolding renumbering
-    first-valid = renumbering-valid n r q e
-
-    pub second-words : length q ≡ rowWords n
-    unfolding renumberChecks
-    second-words = both-lengths n r q (chain-passed (renumberChecks n r q) e .1 .0) .1
+    both-given = renumbering-accepts n r q .0 e
 
     pub written : renumbering n r q .words ≡ renumbered n r
     unfolding renumbering

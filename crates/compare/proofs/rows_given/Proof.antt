@@ -3,7 +3,7 @@ use mathlib.Core.Path.{sym, ap, _∙_}
 use denote.Ref.{now}
 use Rattle.trees.specs.Checks.{accepted}
 use Rattle.judge.specs.Verdicts.{verdict}
-use Rattle.row.proofs.AnswerLaws.{first-valid, second-words}
+use Rattle.row.proofs.AnswerLaws.{both-given}
 use Rattle.compare.proofs.AnswerLaws.{refuses, accepts, checks-split}
 use borrow.Author.Needs.{needs}
 use Rattle.compare.proofs.rows_given.Statement.{statement}
@@ -33,8 +33,8 @@ check-second-requires c κs =
     let g : tie.After-check-first = search needs in
     let t : tie.After-enum-told = search needs in
     let one = sym (g .check-first .ensures) ∙ ap verdict (t .enum-told .given .1) in
-    let ok = first-valid (a .n) (now (a .first)) (now (a .second)) one in
-    (ok .least, ok .most, second-words (a .n) (now (a .first)) (now (a .second)) one)
+    let ok = both-given (a .n) (now (a .first)) (now (a .second)) one in
+    (ok .0 .least, ok .0 .most, ok .1)
 
 returns-2 : tie.Need-returns-2
 returns-2 c =

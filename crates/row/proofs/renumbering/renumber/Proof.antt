@@ -6,7 +6,7 @@ use Rattle.trees.specs.Checks.{accepted, _⊳_}
 use Rattle.trees.specs.RowCalls.{renumberChecks, renumbering}
 use Rattle.trees.specs.RowCallLaws.{renumbering-refused}
 use Rattle.judge.specs.Verdicts.{verdict}
-use Rattle.row.proofs.AnswerLaws.{first-valid, second-words, written}
+use Rattle.row.proofs.AnswerLaws.{both-given, written}
 use Rattle.row.proofs.renumbering.renumber.Statement.{statement}
 use Rattle.row.proofs.renumbering.renumber.Tie as tie
 
@@ -37,7 +37,7 @@ renumber-valid-requires : tie.Need-renumber-valid-requires
 renumber-valid-requires c κs =
     let st = c .before .before .before .before .before .before .before in
     let ok = passed (c .before) in
-    (first-valid _ _ (now (st .args .out)) ok, second-words _ (now (st .args .row)) (now (st .args .out)) ok)
+    both-given _ (now (st .args .row)) (now (st .args .out)) ok
 
 same-length-2 : tie.Need-same-length-2
 same-length-2 c = search needs
