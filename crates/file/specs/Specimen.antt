@@ -31,7 +31,7 @@ unfolding begins wordAt bytesOf
 specimen-most =
     let long = length-zeros 65520 in
     sound-not-bad (ascii "ARB" ++ bytesOf (1 ∷ 17 ∷ 936 ∷ []) ++ zeros 65520)
-      (record { least = omega (arith, long); most = omega (arith, long); mark = refl; version = refl; long = omega (arith, long) })
+    (record { least = omega (arith, long); most = omega (arith, long); mark = refl; version = refl; long = omega (arith, long) })
 
 -- with a byte more it is bad (RULES 9.3)
 pub specimen-long : badFile (input ++ (0 ∷ [])) ≡ true

@@ -87,7 +87,7 @@ first-some call next r p (suc m) (suc i) s w h t d =
     let rest : Bool = every isAccepted (answers (v .words) (tabulate i call (suc s))) in
     let e : s + suc i ≡ suc s + i = omega arith in
     rw (accepted-to (v .verdict) (and-l (isAccepted (v .verdict)) rest t), e)
-      (first-some call next r p m i (suc s) (v .words) (omega arith) (and-r (isAccepted (v .verdict)) rest t) (rw e at d))
+    (first-some call next r p m i (suc s) (v .words) (omega arith) (and-r (isAccepted (v .verdict)) rest t) (rw e at d))
 
 -- a good file whose slots are all taken comes to its report
 whole-reports : (bytes : List ℕ) → Sound bytes → opened (fileSamples bytes) (zeros studyWords) .verdict ≡ accepted
@@ -125,7 +125,7 @@ refuses-listed bytes r j p (slot f h) =
     let o = opened n (zeros studyWords) in
     let e : 0 + j ≡ j = omega arith in
     rw (sound-good bytes (f .sound), study-opens n (f .least) (f .most))
-      (first-some (slotCall bytes n) (reports n k (fileStudy bytes n k)) r p k j 0 (o .words) (h .within) (h .takes) (rw e (h .refuses)) ∙ (rw e))
+    (first-some (slotCall bytes n) (reports n k (fileStudy bytes n k)) r p k j 0 (o .words) (h .within) (h .takes) (rw e (h .refuses)) ∙ (rw e))
 refuses-listed bytes r j p (empty f e er ej ep) =
     let n = fileSamples bytes in
     let o = study-opens n (f .least) (f .most) in
@@ -138,7 +138,7 @@ tree-from : (bytes : List ℕ) (n k : ℕ) (row support : List ℕ) → Tree byt
 unfolding reports
 tree-from bytes n k row support t =
     let whole : listed bytes ≡ reports n k (fileStudy bytes n k) = rw (t .samples, t .count)
-      (whole-reports bytes (t .good) (rw (t .samples) at (t .opens)) (rw (t .samples, t .count) at (t .takes))) in
+    (whole-reports bytes (t .good) (rw (t .samples) at (t .opens)) (rw (t .samples, t .count) at (t .takes))) in
     let last : reports n k (fileStudy bytes n k) ≡ tree n k row support = rw (t .report, t .agreed, t .supports) refl in
     whole ∙ last
 
@@ -236,7 +236,7 @@ listed-tree bytes n k row support = (λ e. go (comes bytes) e, tree-from bytes n
     go (whole f t) e =
         let x = zeros (rowWords m) in
         ends f t (report-cases (fileStudy bytes m l) x x)
-          (sym (whole-reports bytes (f .sound) (study-opens m (f .least) (f .most)) t) ∙ e)
+        (sym (whole-reports bytes (f .sound) (study-opens m (f .least) (f .most)) t) ∙ e)
 
 -- ---- of a file of bytes
 

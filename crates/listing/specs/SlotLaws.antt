@@ -163,7 +163,7 @@ module _ (bytes : List ℕ) (f : Fit bytes) (b : Bytes bytes) where
       let a = slotIdentifier bytes n j in
       let row = slotRow bytes n j in
       rw (study-next bytes n j, added-find w a row (added-accepts w a row .0 (h .1)) (slot-word bytes n j b) i, ← study-named j (h .0) i)
-        (go (eqb i a) (stores (samples w) a row) (find i (runs w)))
+      (go (eqb i a) (stores (samples w) a row) (find i (runs w)))
     where
       go : (c : Bool) (r : Run) (x : Option Run) → isSome (cond c (some r) x) ≡ (c || isSome x)
       go true r x = refl
@@ -178,8 +178,8 @@ module _ (bytes : List ℕ) (f : Fit bytes) (b : Bytes bytes) where
       let u : k * slotWords n ≤ studyWords - headerWords = omega (arith, f .sound .long, f .sound .most, mul-assoc 2 k (2 * n + 1)) in
       let q : k ≤ (studyWords - headerWords) / slotWords n = le-div-iff-mul-le p .1 u in
       rw (study-count j t, w .size, w .same) (true-eq (eqb j (capacity studyWords n)) (eqb j 1024)
-        (λ e. eq-eqb j 1024 (omega (arith, eqb-true j (capacity studyWords n) e)))
-        (λ e. eq-eqb j (capacity studyWords n) (omega (arith, eqb-true j 1024 e))))
+      (λ e. eq-eqb j 1024 (omega (arith, eqb-true j (capacity studyWords n) e)))
+      (λ e. eq-eqb j (capacity studyWords n) (omega (arith, eqb-true j 1024 e))))
 
   -- RULES 7.5: what the next slot is answered, by its own identifier and row and the identifiers before it
   pub slot-answer : (j : ℕ) → Takes bytes n j → j < k → called (fileStudy bytes n j) (slotCall bytes n j) .verdict ≡ slotChecks bytes n j ⊳ accepted
@@ -191,7 +191,7 @@ module _ (bytes : List ℕ) (f : Fit bytes) (b : Bytes bytes) where
       let due : length row ≡ rowWords (samples w) = rw (study-formed j .same) (length-slot bytes n j) in
       added-formed w i row (formed-from w (study-formed j .formed))
       ∙ chain-go (check3 (samples w) row) (check4 i ∷ (rowChecks (samples w) row ++ (check11 w i ∷ check12 w ∷ []))) accepted
-        (rw (eq-eqb (length row) (rowWords (samples w)) due))
+      (rw (eq-eqb (length row) (rowWords (samples w)) due))
       ∙ (rw (study-named j t i, study-full j t h, study-formed j .same))
 
   -- a number is given at a place exactly if its line applies there, and no line before it does
@@ -207,7 +207,7 @@ module _ (bytes : List ℕ) (f : Fit bytes) (b : Bytes bytes) where
   takes-lines (suc j) h t i l =
       let s = takes-next bytes n j .0 t in
       ⊎-elim (λ e. subst (λ (x : ℕ). Passed (slotChecks bytes n x)) (sym e) (chain-passed (slotChecks bytes n j) (sym (slot-answer j (s .0) h) ∙ s .1)))
-        (takes-lines j (omega arith) (s .0) i) (eq-or-lt-of-le (le-of-suc-le-suc l))
+      (takes-lines j (omega arith) (s .0) i) (eq-or-lt-of-le (le-of-suc-le-suc l))
 
   lines-take : (j : ℕ) → j ≤ k → ((i : ℕ) → i < j → Passed (slotChecks bytes n i)) → Takes bytes n j
   unfolding tabulate answers every

@@ -58,8 +58,11 @@ module _ (n : ℕ) (r out : List ℕ) where
   -- it is accepted exactly if the row is valid and the output has 2n words
   pub renumbering-accepts : (renumbering n r out .verdict ≡ accepted) ↔ (Valid n r × (length out ≡ rowWords n))
   unfolding renumbering renumberChecks judgeChecks
-  renumbering-accepts = (to, λ t. let h = valid-passed n r (t .0) in
-      passed-chain (renumberChecks n r out) accepted (h .0, (both-fit n r out (t .0 .words) (t .1), h .1 .1)))
+  renumbering-accepts = (
+    to,
+    λ t. let h = valid-passed n r (t .0) in
+        passed-chain (renumberChecks n r out) accepted (h .0, (both-fit n r out (t .0 .words) (t .1), h .1 .1)),
+  )
     where
       to : renumberChecks n r out ⊳ accepted ≡ accepted → Valid n r × (length out ≡ rowWords n)
       to e =
@@ -119,7 +122,7 @@ module _ (n : ℕ) (r q : List ℕ) where
       to : compareChecks n r q ⊳ compared n r q ≡ compared n r q → Valid n r × Valid n q
       to e =
           let h = unrefused-passed (compareChecks n r q) (compared n r q)
-              (λ k p d. counted-other (shared n r q) (alone n r q) (alone n q r) k p (sym e ∙ d)) in
+          (λ k p d. counted-other (shared n r q) (alone n r q) (alone n q r) k p (sym e ∙ d)) in
           let l = both-lengths n r q (h .1 .0) in
           let s = passed-split (rowChecks n r) (map (moved (rowWords n)) (rowChecks n q)) (h .1 .1) in (
             passed-valid n r (h .0, (one-fits n r (l .0), s .0)),
@@ -130,8 +133,13 @@ module _ (n : ℕ) (r q : List ℕ) where
       from t =
           let h = valid-passed n r (t .0) in
           let k = valid-passed n q (t .1) in
-          passed-chain (compareChecks n r q) (compared n r q) (h .0, (both-fit n r q (t .0 .words) (t .1 .words),
-          passed-append (rowChecks n r) (map (moved (rowWords n)) (rowChecks n q)) (h .1 .1) (moved-passed (rowWords n) (rowChecks n q) .1 (k .1 .1))))
+          passed-chain (compareChecks n r q) (compared n r q) (
+            h .0,
+            (
+              both-fit n r q (t .0 .words) (t .1 .words),
+              passed-append (rowChecks n r) (map (moved (rowWords n)) (rowChecks n q)) (h .1 .1) (moved-passed (rowWords n) (rowChecks n q) .1 (k .1 .1)),
+            ),
+          )
 
 -- a verdict with d added to its place
 abbrev pub movedVerdict : ℕ → Verdict → Verdict

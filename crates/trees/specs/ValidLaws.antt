@@ -109,7 +109,7 @@ module _ (n : ℕ) (r : List ℕ) where
   unfolding judged judgeChecks rowChecks lacks
   given9 p e =
       let t = given-alone (check1 n ∷ check3 n r ∷ check5 n r ∷ check6 n r ∷ check7 n r ∷ check8 n r ∷ []) (check9 n r) (check10 n r ∷ []) 9 p refl refl
-          (chain-given (judgeChecks n r) accepted 9 p (accepted-other 9 p) e) in
+      (chain-given (judgeChecks n r) accepted 9 p (accepted-other 9 p) e) in
       (t .0 .1 .1 .1 .0, t .1)
 
   -- ---- check 9: never means in no number of steps, and every node below the place does come to the root (RULES 7.5)

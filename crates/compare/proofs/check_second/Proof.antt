@@ -32,8 +32,11 @@ add-t7 c =
     let st : tie.Start = search needs in
     let g : tie.After-check-row = search needs in
     let b : tie.After-number = search needs in
-    omega (arith, st .pre .1,
-      row-place (st .args .n) (now (st .args .second)) _ _ (st .pre .0) (sym (g .check-row .ensures) ∙ ap verdict (b .number .given .1)))
+    omega (
+      arith,
+      st .pre .1,
+      row-place (st .args .n) (now (st .args .second)) _ _ (st .pre .0) (sym (g .check-row .ensures) ∙ ap verdict (b .number .given .1)),
+    )
 
 returns-2 : tie.Need-returns-2
 returns-2 c =
