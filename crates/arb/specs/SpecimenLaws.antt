@@ -30,7 +30,7 @@ use Rattle.runs.specs.HistoryLaws.{study-kept}
 use Rattle.runs.specs.FreshLaws.{Fit, gathered, filled-takes, filled-words}
 use Rattle.runs.specs.ReportLaws.{reported-accepts}
 use Rattle.trees.specs.Case.{row1, row2, row3, agreedRow, supportRow}
-use Rattle.arb.specs.Specimens.{Says, renumbers, nodesGive, Reports, leaves, shows, AllSay, nothing, _and_, run, row01, row02, threeRuns, twoRuns, specimens}
+use Rattle.arb.specs.Specimens.{Says, renumbers, nodesGive, RunsGive, leaves, shows, AllSay, nothing, _and_, run, row01, row02, threeRuns, twoRuns, specimens}
 
 -- ---- renumbering
 
@@ -76,7 +76,7 @@ record Computes (n : ℕ) (rs : List Run) (words a s : List ℕ) : Type 0 where
   counts : supports majority (samples words) (runs words) ≡ s
 
 reports-so : (n : ℕ) (rs : List Run) (words a s : List ℕ) → Computes n rs words a s
-    → (w x y : List ℕ) → length w ≡ length words → length x ≡ rowWords n → length y ≡ rowWords n → Reports n rs words a s w x y
+    → (w x y : List ℕ) → length w ≡ length words → length x ≡ rowWords n → length y ≡ rowWords n → RunsGive n rs words a s w x y
 unfolding reported
 reports-so n rs words a s c w x y l d e = record { opens = opens; takes = filled-takes n w rs opens (c .once) fit few; stores = same; report = shown }
   where

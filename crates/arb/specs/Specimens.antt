@@ -31,7 +31,7 @@ abbrev pub shows : List ℕ → List ℕ → Report
 shows a s = record { verdict = accepted; agreedRow = a; supportRow = s }
 
 -- A buffer as long as `words` is opened for n samples and takes each of the runs; then its words are these, and its report is the rows a and s.
-pub record Reports (n : ℕ) (rs : List Run) (words a s w x y : List ℕ) : Type 0 where
+pub record RunsGive (n : ℕ) (rs : List Run) (words a s w x y : List ℕ) : Type 0 where
   pub opens : opened n w .verdict ≡ accepted
   pub takes : every isAccepted (answers (opened n w .words) (adds rs)) ≡ true
   pub stores : studyAfter n w (adds rs) ≡ words
@@ -45,7 +45,7 @@ Says (onlyTree n r) = (q : List ℕ) → judged n q ≡ accepted → q ≡ r
 Says (nodesGive n m v) = (ws : List ℕ) → length (m ∷ ws) ≡ rowWords n → judged n (m ∷ ws) ≡ v
 Says (renumbers n r q) = (out : List ℕ) → length out ≡ rowWords n → renumbering n r out ≡ leaves q
 Says (compares n r q v) = comparing n r q ≡ v
-Says (reports n rs words a s) = (w x y : List ℕ) → length w ≡ length words → length x ≡ rowWords n → length y ≡ rowWords n → Reports n rs words a s w x y
+Says (reports n rs words a s) = (w x y : List ℕ) → length w ≡ length words → length x ≡ rowWords n → length y ≡ rowWords n → RunsGive n rs words a s w x y
 
 -- each row of a table says what is so
 infixr 5 _and_
