@@ -5,7 +5,6 @@ use mathlib.Core.List.{List}
 use Rattle.trees.specs.Checks.{judged}
 use Rattle.trees.specs.Outcomes.{Outcome}
 use Rattle.trees.specs.RowCalls.{renumbering, comparing}
-use Rattle.trees.specs.Reporting.{majority}
 use Rattle.runs.specs.Calls.{opened, added, withdrawn}
 use Rattle.runs.specs.Reports.{Report, reported}
 use Rattle.judge.specs.declared.Answer.{Answer}
@@ -51,6 +50,6 @@ pub record Reports (o : Report) (a : Answer) (agreed support : List ℕ) : Type 
   pub row : agreed ≡ o .agreedRow
   pub supports : support ≡ o .supportRow
 
-pub report-determined : (words x y : List ℕ) (a b : Answer) (r s q t : List ℕ)
-    → Reports (reported majority words x y) a r s → Reports (reported majority words x y) b q t → (a ≡ b) × (r ≡ q) × (s ≡ t)
-report-determined words x y a b r s q t m k = (verdict-injective a b (m .answer ∙ sym (k .answer)), m .row ∙ sym (k .row), m .supports ∙ sym (k .supports))
+pub report-determined : (words : List ℕ) (p : ℕ) (x y : List ℕ) (a b : Answer) (r s q t : List ℕ)
+    → Reports (reported words p x y) a r s → Reports (reported words p x y) b q t → (a ≡ b) × (r ≡ q) × (s ≡ t)
+report-determined words p x y a b r s q t m k = (verdict-injective a b (m .answer ∙ sym (k .answer)), m .row ∙ sym (k .row), m .supports ∙ sym (k .supports))

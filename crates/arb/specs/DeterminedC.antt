@@ -5,7 +5,6 @@ use mathlib.Core.List.{List}
 use Rattle.trees.specs.Checks.{judged}
 use Rattle.trees.specs.Outcomes.{Outcome}
 use Rattle.trees.specs.RowCalls.{renumbering, comparing}
-use Rattle.trees.specs.Reporting.{majority}
 use Rattle.runs.specs.Calls.{opened, added, withdrawn}
 use Rattle.runs.specs.Reports.{Report, reported}
 use Rattle.arb.specs.Packing.{packed, unpacked, unpackedCounts}
@@ -54,12 +53,12 @@ pub record PackedReports (o : Report) (x : ℕ) (agreed support : List ℕ) : Ty
   pub row : agreed ≡ o .agreedRow
   pub supports : support ≡ o .supportRow
 
-pub c-report-determined : (words a b : List ℕ) (x y : ℕ) (r s q t : List ℕ)
-    → PackedReports (reported majority words a b) x r s → PackedReports (reported majority words a b) y q t
-    → (x ≡ y) × (r ≡ q) × (s ≡ t) × (unpacked x ≡ reported majority words a b .verdict)
-c-report-determined words a b x y r s q t m k = (
+pub c-report-determined : (words : List ℕ) (p : ℕ) (a b : List ℕ) (x y : ℕ) (r s q t : List ℕ)
+    → PackedReports (reported words p a b) x r s → PackedReports (reported words p a b) y q t
+    → (x ≡ y) × (r ≡ q) × (s ≡ t) × (unpacked x ≡ reported words p a b .verdict)
+c-report-determined words p a b x y r s q t m k = (
   m .answer ∙ sym (k .answer),
   m .row ∙ sym (k .row),
   m .supports ∙ sym (k .supports),
-  ap unpacked (m .answer) ∙ reported-unpacked majority words a b,
+  ap unpacked (m .answer) ∙ reported-unpacked words p a b,
 )

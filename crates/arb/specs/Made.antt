@@ -6,7 +6,6 @@ use mathlib.Core.Option.{Option}
 use mathlib.Core.Bool.{true}
 use Rattle.trees.specs.Checks.{judged}
 use Rattle.trees.specs.RowCalls.{renumbering, comparing}
-use Rattle.trees.specs.Reporting.{majority}
 use Rattle.runs.specs.Calls.{opened, added, withdrawn}
 use Rattle.runs.specs.Reports.{reported}
 use Rattle.runs.specs.Histories.{Call, identified, called, lastAccepted}
@@ -49,7 +48,7 @@ pub data AnyCall : Type 0 where
   opens : ℕ → AnyCall
   adds : ℕ → List ℕ → AnyCall
   withdraws : ℕ → AnyCall
-  reports : List ℕ → List ℕ → AnyCall
+  reports : ℕ → List ℕ → List ℕ → AnyCall
   judges : ℕ → List ℕ → AnyCall
   renumbers : ℕ → List ℕ → List ℕ → AnyCall
   compares : ℕ → List ℕ → List ℕ → AnyCall
@@ -66,7 +65,7 @@ pub data Gives (w : List ℕ) : AnyCall → Reply → List ℕ → Type 0 where
   opening : {n : ℕ} {a : Answer} {v : List ℕ} → Leaves (opened n w) a v → Gives w (opens n) (says a) v
   adding : {i : ℕ} {row : List ℕ} {a : Answer} {v : List ℕ} → Leaves (added w i row) a v → Gives w (adds i row) (says a) v
   withdrawing : {i : ℕ} {a : Answer} {v : List ℕ} → Leaves (withdrawn w i) a v → Gives w (withdraws i) (says a) v
-  reporting : {x y : List ℕ} {a : Answer} {r s : List ℕ} → Reports (reported majority w x y) a r s → Gives w (reports x y) (writesBoth a r s) w
+  reporting : {p : ℕ} {x y : List ℕ} {a : Answer} {r s : List ℕ} → Reports (reported w p x y) a r s → Gives w (reports p x y) (writesBoth a r s) w
   judging : {n : ℕ} {row : List ℕ} {a : Answer} → verdict a ≡ judged n row → Gives w (judges n row) (says a) w
   rewriting : {n : ℕ} {row out : List ℕ} {a : Answer} {r : List ℕ} → Leaves (renumbering n row out) a r → Gives w (renumbers n row out) (writes a r) w
   counting : {n : ℕ} {r q : List ℕ} {a : Comparison} → comparison a ≡ comparing n r q → Gives w (compares n r q) (counts a) w

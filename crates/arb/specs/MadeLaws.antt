@@ -51,7 +51,7 @@ pub gives-determined : (w : List â„•) (c : AnyCall) (r s : Reply) (u v : List â„
 gives-determined w c r s u v (opening p) (opening q) = let t = open-determined _ w _ _ u v p q in (ap says (t .0), t .1)
 gives-determined w c r s u v (adding p) (adding q) = let t = add-determined w _ _ _ _ u v p q in (ap says (t .0), t .1)
 gives-determined w c r s u v (withdrawing p) (withdrawing q) = let t = withdraw-determined w _ _ _ u v p q in (ap says (t .0), t .1)
-gives-determined w c r s u v (reporting p) (reporting q) = let t = report-determined w _ _ _ _ _ _ _ _ p q in (cc (t .0, t .1, t .2), refl)
+gives-determined w c r s u v (reporting p) (reporting q) = let t = report-determined w _ _ _ _ _ _ _ _ _ p q in (cc (t .0, t .1, t .2), refl)
 gives-determined w c r s u v (judging p) (judging q) = (ap says (judge-determined _ _ _ _ p q), refl)
 gives-determined w c r s u v (rewriting p) (rewriting q) = let t = renumber-determined _ _ _ _ _ _ _ p q in (cc (t .0, t .1), refl)
 gives-determined w c r s u v (counting p) (counting q) = (ap counts (compare-determined _ _ _ _ _ p q), refl)

@@ -9,7 +9,6 @@ use borrow.Author.Tests.{ltb-true, ne-eqb}
 use Rattle.trees.specs.Checks.{Verdict, accepted, refused, counted, Check, _⊳_, judgeChecks, judged}
 use Rattle.trees.specs.Valid.{Valid}
 use Rattle.trees.specs.Comparing.{compared}
-use Rattle.trees.specs.Reporting.{Rule}
 use Rattle.trees.specs.RowCalls.{renumberChecks, renumbering, compareChecks, comparing}
 use Rattle.trees.specs.BoolLaws.{and-l, and-r}
 use Rattle.trees.specs.ChainLaws.{Passed, passed-chain, Given, here, later, chain-holds, numbers as listed}
@@ -86,9 +85,9 @@ pub withdrawn-unpacked : (w : List ℕ) (i : ℕ) → unpacked (packed (withdraw
 unfolding withdrawn every
 withdrawn-unpacked w i = chain-back (withdrawChecks w i) (ap (every fits) (withdrawn-numbers w i)) (withdrawn-placed w i)
 
-pub reported-unpacked : (rule : Rule) (w a s : List ℕ) → unpacked (packed (reported rule w a s .verdict)) ≡ reported rule w a s .verdict
+pub reported-unpacked : (w : List ℕ) (p : ℕ) (a s : List ℕ) → unpacked (packed (reported w p a s .verdict)) ≡ reported w p a s .verdict
 unfolding reported every
-reported-unpacked rule w a s = chain-back (reportChecks w a s) (ap (every fits) (reported-numbers rule w a s)) (reported-placed w a s)
+reported-unpacked w p a s = chain-back (reportChecks w p a s) (ap (every fits) (reported-numbers w p a s)) (reported-placed w p a s)
 
 pub judged-unpacked : (n : ℕ) (r : List ℕ) → unpacked (packed (judged n r)) ≡ judged n r
 unfolding judged every

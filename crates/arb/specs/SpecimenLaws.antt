@@ -16,7 +16,9 @@ use Rattle.trees.specs.Numbering.{enter, ordered, groupSet, lastWith, parents, 
 use Rattle.trees.specs.Comparing.{compared}
 use Rattle.trees.specs.Outcomes.{Outcome}
 use Rattle.trees.specs.RowCalls.{renumbering, compareChecks, comparing}
-use Rattle.trees.specs.Reporting.{Run, majority, support, total, held, shown, agreed, supports}
+use Rattle.trees.specs.Reporting.{Run, support, total, held, shown, agreed, supportsOf, supports}
+use Rattle.trees.specs.Thresholds.{InRange, threshold}
+use Rattle.trees.specs.Majority.{isShown, majority}
 use Rattle.trees.specs.BoolLaws.{and-l, and-r}
 use Rattle.trees.specs.ValidLaws.{accepted-to, judged-valid, only-two, nodes-refused}
 use Rattle.trees.specs.RowCallLaws.{renumbering-accepts}
@@ -29,8 +31,9 @@ use Rattle.runs.specs.CallLaws.{Opens, opened-accepts}
 use Rattle.runs.specs.HistoryLaws.{study-kept}
 use Rattle.runs.specs.FreshLaws.{Fit, gathered, filled-takes, filled-words}
 use Rattle.runs.specs.ReportLaws.{reported-accepts}
-use Rattle.trees.specs.Case.{row1, row2, row3, agreedRow, supportRow}
-use Rattle.arb.specs.Specimens.{Says, renumbers, nodesGive, RunsGive, leaves, shows, AllSay, nothing, _and_, run, row01, row02, threeRuns, twoRuns, specimens}
+use Rattle.trees.specs.Case.{agreedRow, supportRow}
+use Rattle.arb.specs.Specimens.{Says, renumbers, nodesGive, RunsGive, leaves, shows, AllSay, nothing, _and_, run, row01, row02}
+use Rattle.arb.specs.Specimens.{caseRuns, bareRow, wholeRow, threeRuns, twoRuns, specimens}
 
 -- ---- renumbering
 
@@ -62,8 +65,8 @@ each-fits n (x ∷ rs) e r (List·Memᴰ·head q) = rw q (one (and-l (fits n x) 
         }
 each-fits n (x ∷ rs) e r (List·Memᴰ·tail m) = each-fits n rs (and-r (fits n x) (every (fits n) rs) e) r m
 
--- what is left to compute: the study's words, and the two rows of the runs in them
-record Computes (n : ℕ) (rs : List Run) (words a s : List ℕ) : Type 0 where
+-- what is left to compute: the study's words, and the two rows of the runs in them at p
+record Stores (n : ℕ) (rs : List Run) (words : List ℕ) : Type 0 where
   opens : (w : List ℕ) → length w ≡ length words → Opens n w
   once : Distinct rs
   fit : every (fits n) rs ≡ true
@@ -72,13 +75,16 @@ record Computes (n : ℕ) (rs : List Run) (words a s : List ℕ) : Type 0 where
   stores : encode (length words) n (gathered n rs) ≡ words
   over : samples words ≡ n
   some : 0 < inForce words
-  row : agreed majority (samples words) (runs words) ≡ a
-  counts : supports majority (samples words) (runs words) ≡ s
 
-reports-so : (n : ℕ) (rs : List Run) (words a s : List ℕ) → Computes n rs words a s
-    → (w x y : List ℕ) → length w ≡ length words → length x ≡ rowWords n → length y ≡ rowWords n → RunsGive n rs words a s w x y
+record Shows (words : List ℕ) (p : ℕ) (a s : List ℕ) : Type 0 where
+  inRange : InRange (threshold p)
+  row : agreed (majority (threshold p)) (samples words) (runs words) ≡ a
+  counts : supports (majority (threshold p)) (samples words) (runs words) ≡ s
+
+reports-so : (n : ℕ) (rs : List Run) (words : List ℕ) (p : ℕ) (a s : List ℕ) → Stores n rs words → Shows words p a s
+    → (w x y : List ℕ) → length w ≡ length words → length x ≡ rowWords n → length y ≡ rowWords n → RunsGive n rs words p a s w x y
 unfolding reported
-reports-so n rs words a s c w x y l d e = record { opens = opens; takes = filled-takes n w rs opens (c .once) fit few; stores = same; report = shown }
+reports-so n rs words p a s c f w x y l d e = record { opens = opens; takes = filled-takes n w rs opens (c .once) fit few; stores = same; report = shown }
   where
     opens : opened n w .verdict ≡ accepted
     opens = opened-accepts n w .1 (c .opens w l)
@@ -95,23 +101,24 @@ reports-so n rs words a s c w x y l d e = record { opens = opens; takes = filled
     left : Verdict → Report
     left v = record {
       verdict = v;
-      agreedRow = cond (isAccepted v) (agreed majority (samples words) (runs words)) x;
-      supportRow = cond (isAccepted v) (supports majority (samples words) (runs words)) y;
+      agreedRow = cond (isAccepted v) (agreed (majority (threshold p)) (samples words) (runs words)) x;
+      supportRow = cond (isAccepted v) (supports (majority (threshold p)) (samples words) (runs words)) y;
     }
 
-    shown : reported majority words x y ≡ shows a s
-    shown = ap left (reported-accepts majority words x y .1 record {
+    shown : reported words p x y ≡ shows a s
+    shown = ap left (reported-accepts words p x y .1 record {
       formed = rw same at (study-kept n w (adds rs) opens (c .named) .formed);
       agreedWords = rw (c .over) d;
       supportWords = rw (c .over) e;
+      inRange = f .inRange;
       some = c .some;
-    }) ∙ rw (c .row, c .counts) refl
+    }) ∙ rw (f .counts, f .row) refl
 
 -- ---- the table
 
-three-runs : Computes 5 (run 1 row1 ∷ run 2 row2 ∷ run 3 row3 ∷ []) threeRuns agreedRow supportRow
+three-runs : Stores 5 caseRuns threeRuns
 unfolding tabulate filter first weigh size lowest same listFirst before member nodes parent meets ends groupAt groups _⊳_ rowChecks judgeChecks judged
-    enter ordered groupSet lastWith parents rowOf renumbered support total held shown agreed supports every find insertRun gathered slots encode runs capacity
+    enter ordered groupSet lastWith parents rowOf renumbered every find insertRun gathered slots encode runs capacity
 three-runs = record {
   opens = λ w l. record { least = omega arith; most = omega arith; one = rw l (omega arith) };
   once = (refl, (refl, (refl, tt)));
@@ -121,13 +128,11 @@ three-runs = record {
   stores = refl;
   over = refl;
   some = omega arith;
-  row = refl;
-  counts = refl;
 }
 
-two-runs : Computes 3 (run 1 row01 ∷ run 2 row02 ∷ []) twoRuns (4 ∷ 3 ∷ 3 ∷ 3 ∷ 65535 ∷ 0 ∷ []) (2 ∷ 2 ∷ 2 ∷ 2 ∷ 2 ∷ 0 ∷ [])
+two-runs : Stores 3 (run 1 row01 ∷ run 2 row02 ∷ []) twoRuns
 unfolding tabulate filter first weigh size lowest same listFirst before member nodes parent meets ends groupAt groups _⊳_ rowChecks judgeChecks judged
-    enter ordered groupSet lastWith parents rowOf renumbered support total held shown agreed supports every find insertRun gathered slots encode runs capacity
+    enter ordered groupSet lastWith parents rowOf renumbered every find insertRun gathered slots encode runs capacity
 two-runs = record {
   opens = λ w l. record { least = omega arith; most = omega arith; one = rw l (omega arith) };
   once = (refl, (refl, tt));
@@ -137,9 +142,37 @@ two-runs = record {
   stores = refl;
   over = refl;
   some = omega arith;
-  row = refl;
-  counts = refl;
 }
+
+three-unnamed : Shows threeRuns 0 agreedRow supportRow
+unfolding tabulate filter weigh size lowest same listFirst before member nodes parent meets groupAt groups
+    enter ordered lastWith parents rowOf support total held shown agreed supportsOf runs threshold isShown
+three-unnamed = record { inRange = (omega arith, omega arith); row = refl; counts = refl }
+
+three-half : Shows threeRuns 50 agreedRow supportRow
+unfolding tabulate filter weigh size lowest same listFirst before member nodes parent meets groupAt groups
+    enter ordered lastWith parents rowOf support total held shown agreed supportsOf runs threshold isShown
+three-half = record { inRange = (omega arith, omega arith); row = refl; counts = refl }
+
+three-66 : Shows threeRuns 66 agreedRow supportRow
+unfolding tabulate filter weigh size lowest same listFirst before member nodes parent meets groupAt groups
+    enter ordered lastWith parents rowOf support total held shown agreed supportsOf runs threshold isShown
+three-66 = record { inRange = (omega arith, omega arith); row = refl; counts = refl }
+
+three-67 : Shows threeRuns 67 bareRow wholeRow
+unfolding tabulate filter weigh size lowest same listFirst before member nodes parent meets groupAt groups
+    enter ordered lastWith parents rowOf support total held shown agreed supportsOf runs threshold isShown
+three-67 = record { inRange = (omega arith, omega arith); row = refl; counts = refl }
+
+three-all : Shows threeRuns 100 bareRow wholeRow
+unfolding tabulate filter weigh size lowest same listFirst before member nodes parent meets groupAt groups
+    enter ordered lastWith parents rowOf support total held shown agreed supportsOf runs threshold isShown
+three-all = record { inRange = (omega arith, omega arith); row = refl; counts = refl }
+
+two-unnamed : Shows twoRuns 0 (4 ∷ 3 ∷ 3 ∷ 3 ∷ 65535 ∷ 0 ∷ []) (2 ∷ 2 ∷ 2 ∷ 2 ∷ 2 ∷ 0 ∷ [])
+unfolding tabulate filter weigh size lowest same listFirst before member nodes parent meets groupAt groups
+    enter ordered lastWith parents rowOf support total held shown agreed supportsOf runs threshold isShown
+two-unnamed = record { inRange = (omega arith, omega arith); row = refl; counts = refl }
 
 one-tree : Says (renumbers 3 (5 ∷ 3 ∷ 3 ∷ 4 ∷ 4 ∷ 65535 ∷ []) row01)
 unfolding tabulate filter first weigh size lowest same listFirst before member nodes parent meets ends groupAt groups _⊳_ rowChecks judgeChecks judged
@@ -153,7 +186,7 @@ pub specimens-hold : AllSay specimens
 unfolding tabulate filter first weigh size lowest same listFirst before member nodes parent meets ends groupAt groups
     _⊳_ rowChecks judgeChecks judged enter ordered groupSet lastWith parents rowOf renumbered compared compareChecks comparing
 specimens-hold =
-    reports-so 5 _ _ _ _ three-runs
+    reports-so 5 _ _ _ _ _ three-runs three-unnamed
     and refl
     and only-two
     and refl
@@ -167,7 +200,11 @@ specimens-hold =
     and refl
     and first-word 3 refl
     and first-word 6 refl
-    and reports-so 3 _ _ _ _ two-runs
+    and reports-so 3 _ _ _ _ _ two-runs two-unnamed
     and refl
     and refl
+    and reports-so 5 _ _ _ _ _ three-runs three-half
+    and reports-so 5 _ _ _ _ _ three-runs three-66
+    and reports-so 5 _ _ _ _ _ three-runs three-67
+    and reports-so 5 _ _ _ _ _ three-runs three-all
     and nothing

@@ -1,4 +1,4 @@
--- The specimens that are proved (RULES 10.1 to 10.6): one table, and what each of its rows says of the calls.
+-- The specimens that are proved (RULES 10.1 to 10.7): one table, and what each of its rows says of the calls.
 use Prim.Native.Nat.{ℕ}
 use mathlib.Core.Path.{_≡_}
 use mathlib.Core.List.{List, [], _∷_, _++_}
@@ -8,7 +8,7 @@ use Rattle.trees.specs.Checks.{Verdict, accepted, refused, counted, rowWords, j
 use Rattle.trees.specs.Valid.{isAccepted}
 use Rattle.trees.specs.Outcomes.{Outcome}
 use Rattle.trees.specs.RowCalls.{renumbering, comparing}
-use Rattle.trees.specs.Reporting.{Run, majority}
+use Rattle.trees.specs.Reporting.{Run}
 use Rattle.trees.specs.Case.{row1, row2, row3, agreedRow, supportRow}
 use Rattle.runs.specs.Runs.{every}
 use Rattle.runs.specs.Calls.{opened}
@@ -21,7 +21,7 @@ pub data Specimen : Type 0 where
   nodesGive : ℕ → ℕ → Verdict → Specimen
   renumbers : ℕ → List ℕ → List ℕ → Specimen
   compares : ℕ → List ℕ → List ℕ → Verdict → Specimen
-  reports : ℕ → List Run → List ℕ → List ℕ → List ℕ → Specimen
+  reports : ℕ → List Run → List ℕ → ℕ → List ℕ → List ℕ → Specimen
 
 -- what an accepted call leaves in the buffer that it writes, and an accepted report in its two
 abbrev pub leaves : List ℕ → Outcome
@@ -30,12 +30,13 @@ leaves ws = record { verdict = accepted; words = ws }
 abbrev pub shows : List ℕ → List ℕ → Report
 shows a s = record { verdict = accepted; agreedRow = a; supportRow = s }
 
--- A buffer as long as `words` is opened for n samples and takes each of the runs; then its words are these, and its report is the rows a and s.
-pub record RunsGive (n : ℕ) (rs : List Run) (words a s w x y : List ℕ) : Type 0 where
+-- A buffer as long as `words` is opened for n samples and takes each of the runs; then its words are these, and its report at p is
+-- the rows a and s.
+pub record RunsGive (n : ℕ) (rs : List Run) (words : List ℕ) (p : ℕ) (a s w x y : List ℕ) : Type 0 where
   pub opens : opened n w .verdict ≡ accepted
   pub takes : every isAccepted (answers (opened n w .words) (adds rs)) ≡ true
   pub stores : studyAfter n w (adds rs) ≡ words
-  pub report : reported majority words x y ≡ shows a s
+  pub report : reported words p x y ≡ shows a s
 
 -- judging or comparing these words answers this; it is the only tree over n samples; a row of 2n words that begins with m is judged so,
 -- whatever its other words are; renumbering these words leaves those, whatever the output held; so does reporting on runs that were added
@@ -45,7 +46,7 @@ Says (onlyTree n r) = (q : List ℕ) → judged n q ≡ accepted → q ≡ r
 Says (nodesGive n m v) = (ws : List ℕ) → length (m ∷ ws) ≡ rowWords n → judged n (m ∷ ws) ≡ v
 Says (renumbers n r q) = (out : List ℕ) → length out ≡ rowWords n → renumbering n r out ≡ leaves q
 Says (compares n r q v) = comparing n r q ≡ v
-Says (reports n rs words a s) = (w x y : List ℕ) → length w ≡ length words → length x ≡ rowWords n → length y ≡ rowWords n → RunsGive n rs words a s w x y
+Says (reports n rs words p a s) = (w x y : List ℕ) → length w ≡ length words → length x ≡ rowWords n → length y ≡ rowWords n → RunsGive n rs words p a s w x y
 
 -- each row of a table says what is so
 infixr 5 _and_
@@ -63,6 +64,16 @@ row01 = 5 ∷ 4 ∷ 4 ∷ 3 ∷ 65535 ∷ 3 ∷ []
 abbrev pub row02 : List ℕ
 row02 = 5 ∷ 4 ∷ 3 ∷ 4 ∷ 65535 ∷ 3 ∷ []
 
+-- the three runs; and the row of five samples without inner groups, with the support row beside it where each of three runs holds the whole
+abbrev pub caseRuns : List Run
+caseRuns = run 1 row1 ∷ run 2 row2 ∷ run 3 row3 ∷ []
+
+abbrev pub bareRow : List ℕ
+bareRow = 6 ∷ 5 ∷ 5 ∷ 5 ∷ 5 ∷ 5 ∷ 65535 ∷ 0 ∷ 0 ∷ 0 ∷ []
+
+abbrev pub wholeRow : List ℕ
+wholeRow = 3 ∷ 3 ∷ 3 ∷ 3 ∷ 3 ∷ 3 ∷ 3 ∷ 0 ∷ 0 ∷ 0 ∷ []
+
 -- a study over five samples with the three runs, and one over three samples with two: the header, then a slot for each (RULES 6.1 to 6.3)
 abbrev pub threeRuns : List ℕ
 threeRuns = (65 ∷ 82 ∷ 66 ∷ 1 ∷ 5 ∷ 3 ∷ 0 ∷ 0 ∷ []) ++ (1 ∷ row1) ++ (2 ∷ row2) ++ (3 ∷ row3)
@@ -73,7 +84,7 @@ twoRuns = (65 ∷ 82 ∷ 66 ∷ 1 ∷ 3 ∷ 2 ∷ 0 ∷ 0 ∷ []) ++ (1 ∷ row0
 abbrev pub specimens : List Specimen
 specimens =
     -- the three runs (RULES 10.1): the study's 41 words, the agreed row, the support row
-    reports 5 (run 1 row1 ∷ run 2 row2 ∷ run 3 row3 ∷ []) threeRuns agreedRow supportRow
+    reports 5 caseRuns threeRuns 0 agreedRow supportRow
     -- the one tree of two samples (RULES 10.2)
     ∷ judges 2 (3 ∷ 2 ∷ 2 ∷ 65535 ∷ []) accepted
     ∷ onlyTree 2 (3 ∷ 2 ∷ 2 ∷ 65535 ∷ [])
@@ -91,8 +102,13 @@ specimens =
     ∷ nodesGive 3 3 (refused 5 0)
     ∷ nodesGive 3 6 (refused 5 0)
     -- two runs in conflict (RULES 10.5)
-    ∷ reports 3 (run 1 row01 ∷ run 2 row02 ∷ []) twoRuns (4 ∷ 3 ∷ 3 ∷ 3 ∷ 65535 ∷ 0 ∷ []) (2 ∷ 2 ∷ 2 ∷ 2 ∷ 2 ∷ 0 ∷ [])
+    ∷ reports 3 (run 1 row01 ∷ run 2 row02 ∷ []) twoRuns 0 (4 ∷ 3 ∷ 3 ∷ 3 ∷ 65535 ∷ 0 ∷ []) (2 ∷ 2 ∷ 2 ∷ 2 ∷ 2 ∷ 0 ∷ [])
     -- comparisons (RULES 10.6): of the second one the two sides differ
     ∷ compares 5 row1 row2 (counted 7 1 1)
     ∷ compares 5 row1 row3 (counted 7 1 2)
+    -- the three runs at other thresholds (RULES 10.7)
+    ∷ reports 5 caseRuns threeRuns 50 agreedRow supportRow
+    ∷ reports 5 caseRuns threeRuns 66 agreedRow supportRow
+    ∷ reports 5 caseRuns threeRuns 67 bareRow wholeRow
+    ∷ reports 5 caseRuns threeRuns 100 bareRow wholeRow
     ∷ []

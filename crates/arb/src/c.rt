@@ -2,7 +2,6 @@
 ghost use mathlib.Core.Path.{_≡_};
 ghost use Rattle.trees.specs.Checks.{refused, counted, judged};
 ghost use Rattle.trees.specs.RowCalls.{renumbering, comparing};
-ghost use Rattle.trees.specs.Reporting.{majority};
 ghost use Rattle.runs.specs.Calls.{opened, added, withdrawn};
 ghost use Rattle.runs.specs.Reports.{reported};
 ghost use Rattle.judge.specs.Verdicts.{verdict};
@@ -89,12 +88,17 @@ pub extern "C" fn arb_withdraw(words: &mut [u16], id: u16) -> u64
 
 // Reporting.
 #[no_mangle]
-pub extern "C" fn arb_report(words: &[u16], agreed: &mut [u16], support: &mut [u16]) -> u64
-    ensures answer { λ r. ⌜ r ≡ packed (reported majority (now (words .entry)) (now (agreed .entry)) (now (support .entry)) .verdict) ⌝ }
-    ensures agreed { λ _. ⌜ now (agreed .exit) ≡ reported majority (now (words .entry)) (now (agreed .entry)) (now (support .entry)) .agreedRow ⌝ }
-    ensures support { λ _. ⌜ now (support .exit) ≡ reported majority (now (words .entry)) (now (agreed .entry)) (now (support .entry)) .supportRow ⌝ }
+pub extern "C" fn arb_report(
+    words: &[u16],
+    p: usize,
+    agreed: &mut [u16],
+    support: &mut [u16],
+) -> u64
+    ensures answer { λ r. ⌜ r ≡ packed (reported (now (words .entry)) p (now (agreed .entry)) (now (support .entry)) .verdict) ⌝ }
+    ensures agreed { λ _. ⌜ now (agreed .exit) ≡ reported (now (words .entry)) p (now (agreed .entry)) (now (support .entry)) .agreedRow ⌝ }
+    ensures support { λ _. ⌜ now (support .exit) ≡ reported (now (words .entry)) p (now (agreed .entry)) (now (support .entry)) .supportRow ⌝ }
 {
-    pack(crate::report(words, agreed, support))
+    pack(crate::report(words, p, agreed, support))
 }
 
 // Judging.

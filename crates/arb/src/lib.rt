@@ -4,7 +4,6 @@ mod c;
 ghost use mathlib.Core.Path.{_≡_};
 ghost use Rattle.trees.specs.Checks.{judged};
 ghost use Rattle.trees.specs.RowCalls.{renumbering, comparing};
-ghost use Rattle.trees.specs.Reporting.{majority};
 ghost use Rattle.runs.specs.Calls.{opened, added, withdrawn};
 ghost use Rattle.runs.specs.Reports.{reported};
 ghost use Rattle.judge.specs.Verdicts.{verdict};
@@ -36,13 +35,14 @@ pub fn withdraw(words: &mut [u16], id: u16) -> Answer
     study::withdraw(words, id)
 }
 
-// Reporting (RULES 5): the agreed row and the support row of the runs in force; or a refusal that leaves both as they were. The study is only read.
-pub fn report(words: &[u16], agreed: &mut [u16], support: &mut [u16]) -> Answer
-    ensures answer { λ r. ⌜ verdict r ≡ reported majority (now (words .entry)) (now (agreed .entry)) (now (support .entry)) .verdict ⌝ }
-    ensures agreed { λ _. ⌜ now (agreed .exit) ≡ reported majority (now (words .entry)) (now (agreed .entry)) (now (support .entry)) .agreedRow ⌝ }
-    ensures support { λ _. ⌜ now (support .exit) ≡ reported majority (now (words .entry)) (now (agreed .entry)) (now (support .entry)) .supportRow ⌝ }
+// Reporting (RULES 5) at threshold p, 0 for the default: the agreed row and the support row of the runs in force; or a refusal that leaves both as
+// they were. The study is only read.
+pub fn report(words: &[u16], p: usize, agreed: &mut [u16], support: &mut [u16]) -> Answer
+    ensures answer { λ r. ⌜ verdict r ≡ reported (now (words .entry)) p (now (agreed .entry)) (now (support .entry)) .verdict ⌝ }
+    ensures agreed { λ _. ⌜ now (agreed .exit) ≡ reported (now (words .entry)) p (now (agreed .entry)) (now (support .entry)) .agreedRow ⌝ }
+    ensures support { λ _. ⌜ now (support .exit) ≡ reported (now (words .entry)) p (now (agreed .entry)) (now (support .entry)) .supportRow ⌝ }
 {
-    report::report(words, agreed, support)
+    report::report(words, p, agreed, support)
 }
 
 // Judging: whether a row is one tree over n samples, or the number and the place of what is wrong with it (RULES 7.5). No word changes.

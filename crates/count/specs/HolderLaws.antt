@@ -17,14 +17,15 @@ use Rattle.trees.specs.Valid.{Standard}
 use Rattle.trees.specs.Tables.{Tabled, tableWords, entry}
 use Rattle.trees.specs.Mates.{noMate, mateOf}
 use Rattle.trees.specs.Merging.{flagged}
-use Rattle.trees.specs.Reporting.{Run, worth, support, majority}
+use Rattle.trees.specs.Reporting.{Run, worth, support}
+use Rattle.trees.specs.Majority.{isShown, majority}
 use Rattle.trees.specs.BoolLaws.{decide}
 use Rattle.trees.specs.ListLaws.{length-zeros, getD-zeros, weigh-append}
 use Rattle.trees.specs.RowLaws.{inner-two}
 use Rattle.trees.specs.TableLaws.{tabled-more, tabled-none}
 use Rattle.trees.specs.MateLaws.{mate-holds}
 use Rattle.trees.specs.ReportingLaws.{total-length, support-most}
-use Rattle.count.specs.Holders.{holdersAt, withMate, withRun, Under, Tallying, Holding, isShown, Marked}
+use Rattle.count.specs.Holders.{holdersAt, withMate, withRun, Under, Tallying, Holding, Marked}
 
 -- ---- the mates of one run
 
@@ -89,21 +90,23 @@ module _ (n : ℕ) (rs : List Run) (q : List ℕ) where
 
 -- ---- marks
 
-pub marked-none : (k : ℕ) (holders : List ℕ) (a : ℕ) (keep : List Bool) → Marked k holders a a keep
-marked-none k holders a keep = record { is = λ v h j. absurd (omega arith) }
+pub marked-none : (t k : ℕ) (holders : List ℕ) (a : ℕ) (keep : List Bool) → Marked t k holders a a keep
+marked-none t k holders a keep = record { is = λ v h j. absurd (omega arith) }
 
-pub marked-more : (k : ℕ) (holders : List ℕ) (a v : ℕ) (b : Bool) (keep : List Bool) → v < length keep → b ≡ isShown k (entry holders v)
-    → Marked k holders a v keep → Marked k holders a (v + 1) (set keep v b)
-marked-more k holders a v b keep l e m = record { is = λ u h j. ⊎-elim (λ q. here u (eqb-true u v q)) (λ q. there u h j (eqb-false u v q)) (decide (eqb u v)) }
+pub marked-more : (t k : ℕ) (holders : List ℕ) (a v : ℕ) (b : Bool) (keep : List Bool) → v < length keep → b ≡ isShown t k (entry holders v)
+    → Marked t k holders a v keep → Marked t k holders a (v + 1) (set keep v b)
+marked-more t k holders a v b keep l e m = record {
+  is = λ u h j. ⊎-elim (λ q. here u (eqb-true u v q)) (λ q. there u h j (eqb-false u v q)) (decide (eqb u v));
+}
   where
-    here : (u : ℕ) → u ≡ v → flagged (set keep v b) u ≡ isShown k (entry holders u)
+    here : (u : ℕ) → u ≡ v → flagged (set keep v b) u ≡ isShown t k (entry holders u)
     here u q = rw q (getD-set-same keep v b false l ∙ e)
 
-    there : (u : ℕ) → a ≤ u → u < v + 1 → (u ≡ v → ⊥) → flagged (set keep v b) u ≡ isShown k (entry holders u)
+    there : (u : ℕ) → a ≤ u → u < v + 1 → (u ≡ v → ⊥) → flagged (set keep v b) u ≡ isShown t k (entry holders u)
     there u h j q = getD-set-other keep v u b false q ∙ m .is u h (omega arith)
 
-pub marked-majority : (n : ℕ) (rs : List Run) (q holders : List ℕ) (k : ℕ) (keep : List Bool) → length rs ≡ k
-    → Tabled (holdersAt n rs q) n (nodes q) holders → Marked k holders n (nodes q) keep
-    → (v : ℕ) → n ≤ v → v < nodes q → flagged keep v ≡ majority n rs (groupAt n q v)
-marked-majority n rs q holders k keep l t m v h j = m .is v h j ∙ ap (isShown k) (t .is v h j)
-    ∙ ap (λ (x : ℕ). isShown x (support n rs (groupAt n q v))) (sym (total-length rs ∙ l))
+pub marked-majority : (t n : ℕ) (rs : List Run) (q holders : List ℕ) (k : ℕ) (keep : List Bool) → length rs ≡ k
+    → Tabled (holdersAt n rs q) n (nodes q) holders → Marked t k holders n (nodes q) keep
+    → (v : ℕ) → n ≤ v → v < nodes q → flagged keep v ≡ majority t n rs (groupAt n q v)
+marked-majority t n rs q holders k keep l i m v h j = m .is v h j ∙ ap (isShown t k) (i .is v h j)
+    ∙ ap (λ (x : ℕ). isShown t x (support n rs (groupAt n q v))) (sym (total-length rs ∙ l))

@@ -1,15 +1,16 @@
 -- How many runs hold the group of each node of a reference row, counted run by run; and which nodes pass.
-use Prim.Native.Nat.{ℕ, _+_, _*_, _≤_, _<_}
+use Prim.Native.Nat.{ℕ, _+_, _≤_, _<_}
 use mathlib.Core.Path.{_≡_}
 use mathlib.Core.List.{List}
 use mathlib.Core.Bool.{Bool, not, cond}
-use lib.Dec.{eqb, ltb}
+use lib.Dec.{eqb}
 use lib.ListN.{length, getD, take}
 use Rattle.trees.specs.Rows.{nodes, groupAt, holds}
 use Rattle.trees.specs.Tables.{Tabled, tableWords, entry}
 use Rattle.trees.specs.Mates.{noMate}
 use Rattle.trees.specs.Merging.{flagged}
 use Rattle.trees.specs.Reporting.{Run, support}
+use Rattle.trees.specs.Majority.{isShown}
 
 -- how many of the runs hold the group of node v of q
 abbrev pub holdersAt : ℕ → List Run → List ℕ → ℕ → ℕ
@@ -39,10 +40,6 @@ pub record Holding (n : ℕ) (rs : List Run) (q : List ℕ) (j : ℕ) (t : List 
   pub long : length t ≡ tableWords
   pub held : Tabled (holdersAt n (take j rs) q) n (nodes q) t
 
--- whether `held` of k runs are more than half (RULES 5.1)
-abbrev pub isShown : ℕ → ℕ → Bool
-isShown k held = ltb k (2 * held)
-
--- the flags from a to below b, by a table of the numbers of runs
-pub record Marked (k : ℕ) (holders : List ℕ) (a b : ℕ) (keep : List Bool) : Type 0 where
-  pub is : (v : ℕ) → a ≤ v → v < b → flagged keep v ≡ isShown k (entry holders v)
+-- the flags from a to below b, by a table of the numbers of runs: what is shown at threshold t
+pub record Marked (t k : ℕ) (holders : List ℕ) (a b : ℕ) (keep : List Bool) : Type 0 where
+  pub is : (v : ℕ) → a ≤ v → v < b → flagged keep v ≡ isShown t k (entry holders v)

@@ -6,7 +6,7 @@ use lib.ListN.{replicate}
 use Rattle.trees.specs.Groups.{whole}
 use Rattle.trees.specs.Numbering.{rowOf}
 use Rattle.trees.specs.Tables.{tableWords}
-use Rattle.trees.specs.Reporting.{majority}
+use Rattle.trees.specs.Majority.{majority}
 use Rattle.trees.specs.Counting.{soFar}
 use Rattle.runs.specs.Words.{runs}
 
@@ -14,9 +14,9 @@ use Rattle.runs.specs.Words.{runs}
 abbrev pub bareRow : ℕ → List ℕ
 bareRow n = rowOf n (whole n ∷ [])
 
--- the row of what is accepted once the first i runs of a study have been tried
-abbrev pub accepted : ℕ → List ℕ → ℕ → List ℕ
-accepted n w i = rowOf n (soFar majority n (runs w) i)
+-- the row of what is accepted at threshold t once the first i runs of a study have been tried
+abbrev pub accepted : ℕ → ℕ → List ℕ → ℕ → List ℕ
+accepted t n w i = rowOf n (soFar (majority t) n (runs w) i)
 
 -- flags that keep all nodes
 abbrev pub all : List Bool

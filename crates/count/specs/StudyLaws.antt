@@ -7,9 +7,12 @@ use native.Mathlib.Omega.{arith}
 use lib.ListN.{length, getD}
 use Rattle.trees.specs.Checks.{fewestSamples, mostSamples}
 use Rattle.trees.specs.Valid.{Standard}
-use Rattle.trees.specs.Reporting.{Run, majority}
+use Rattle.trees.specs.Reporting.{Run}
+use Rattle.trees.specs.Thresholds.{InRange}
+use Rattle.trees.specs.Majority.{majority}
 use Rattle.trees.specs.ListLaws.{member-at, getD-tabulate}
-use Rattle.trees.specs.ReportingLaws.{Runs, Sound, majority-sound}
+use Rattle.trees.specs.ReportingLaws.{Runs, Sound}
+use Rattle.trees.specs.MajorityLaws.{majority-sound}
 use Rattle.runs.specs.Words.{samples, inForce, slotStart, slotWords, runAt, runs, mostRuns}
 use Rattle.runs.specs.WordLaws.{length-runs}
 use Rattle.runs.specs.SlotLaws.{slot-within, formed-fits, formed-few}
@@ -42,12 +45,12 @@ module _ (w : List ℕ) (n k : ℕ) (study : Study w n k) where
   pub study-valid : Runs n (runs w)
   study-valid run m = study-all run m .valid
 
-  -- where it has a run, what the majority shows is a tree
+  -- where it has a run, what is shown at any threshold is a tree
   pub study-some : 0 < k → 0 < length (runs w)
   study-some h = rw study-length h
 
-  pub study-sound : 0 < k → Sound majority n (runs w)
-  study-sound h = majority-sound n (runs w) study-valid (study-some h)
+  pub study-sound : 0 < k → (t : ℕ) → InRange t → Sound (majority t) n (runs w)
+  study-sound h t i = majority-sound t n (runs w) (study-some h) (i .0) study-valid
 
   pub study-standard : (j : ℕ) → j < k → Standard n (rowAt n w j)
   study-standard j h = let d : Run = runAt n w j in

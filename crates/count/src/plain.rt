@@ -3,13 +3,16 @@ ghost use mathlib.Core.Path.{_≡_};
 ghost use Prim.Native.Nat.{_+_, _<_, _≤_};
 ghost use lib.ListN.{length, getD};
 ghost use Rattle.trees.specs.Checks.{fewestSamples, mostSamples, rowWords};
-ghost use Rattle.trees.specs.Reporting.{majority, agreed, references};
-ghost use Rattle.runs.specs.Words.{runs, mostRuns};
+ghost use Rattle.trees.specs.Reporting.{agreed};
+ghost use Rattle.trees.specs.Thresholds.{InRange};
+ghost use Rattle.trees.specs.Majority.{majority};
+ghost use Rattle.runs.specs.Words.{runs};
 ghost use Rattle.count.specs.Studies.{Study};
 ghost use Rattle.count.specs.Plain.{bareRow, accepted};
 use crate::holding::holders;
 use crate::holding::run_row;
 use crate::rule::marks;
+use crate::rule::references;
 use judge::ROOT_MARK;
 use judge::nodes;
 use merge::merge;
@@ -54,38 +57,38 @@ fn copy(from: &[u16], to: &mut [u16])
     copy_in(to, 0, from);
 }
 
-// Merges what is shown of run i into what is accepted.
-fn take_in(n: usize, words: &[u16], k: usize, i: usize, out: &mut [u16], spare: &mut [u16])
-    requires { ⌜ Study (now words) n k × (i < k) × (now out ≡ accepted n (now words) i) × (length (now spare) ≡ rowWords n) ⌝ }
-    ensures { λ _. ⌜ now (out .exit) ≡ accepted n (now (words .entry)) (i + 1) ⌝ }
+// Merges what is shown of run i at threshold t into what is accepted.
+fn take_in(
+    n: usize,
+    words: &[u16],
+    k: usize,
+    t: usize,
+    i: usize,
+    out: &mut [u16],
+    spare: &mut [u16],
+)
+    requires { ⌜ Study (now words) n k × (i < k) × (now out ≡ accepted t n (now words) i) × (length (now spare) ≡ rowWords n) × InRange t ⌝ }
+    ensures { λ _. ⌜ now (out .exit) ≡ accepted t n (now (words .entry)) (i + 1) ⌝ }
 {
     let mut held: Table = [0; TABLE];
     let mut keep: [bool; TABLE] = [false; TABLE];
     let row = run_row(n, words, i);
     holders(n, words, k, row, &mut held);
-    marks(n, nodes(row), k, &held, &mut keep);
+    marks(n, nodes(row), t, k, &held, &mut keep);
     merge(n, out, &[true; TABLE], row, &keep, spare);
     copy(spare, out);
 }
 
-// How many runs are tried: a group that more than half of k runs hold is held by one of them.
-fn references(k: usize) -> usize
-    requires { ⌜ k ≤ mostRuns ⌝ }
-    ensures { λ r. ⌜ r ≡ references k ⌝ }
-{
-    (k + 1) / 2
-}
-
-// The agreed row; `spare` is a buffer to work in.
-pub fn agreed_row(n: usize, words: &[u16], k: usize, out: &mut [u16], spare: &mut [u16])
-    requires { ⌜ Study (now words) n k × (0 < k) × (length (now out) ≡ rowWords n) × (length (now spare) ≡ rowWords n) ⌝ }
-    ensures { λ _. ⌜ now (out .exit) ≡ agreed majority n (runs (now (words .entry))) ⌝ }
+// The agreed row at threshold t; `spare` is a buffer to work in.
+pub fn agreed_row(n: usize, words: &[u16], k: usize, t: usize, out: &mut [u16], spare: &mut [u16])
+    requires { ⌜ Study (now words) n k × (0 < k) × (length (now out) ≡ rowWords n) × (length (now spare) ≡ rowWords n) × InRange t ⌝ }
+    ensures { λ _. ⌜ now (out .exit) ≡ agreed (majority t) n (runs (now (words .entry))) ⌝ }
 {
     bare(n, out);
-    let last = references(k);
+    let last = references(t, k);
     let mut tried = 0;
     while tried < last {
-        take_in(n, words, k, tried, out, spare);
+        take_in(n, words, k, t, tried, out, spare);
         tried += 1;
     }
 }

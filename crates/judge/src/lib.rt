@@ -47,6 +47,8 @@ impl Refusal {
     pub const ABSENT: usize = 13;
 
     pub const EMPTY: usize = 14;
+
+    pub const THRESHOLD: usize = 16;
 }
 
 // How few samples there can be, and how many (RULES 1.1).

@@ -12,11 +12,14 @@ use borrow.Author.Tests.{eqb-true, eq-eqb, ne-eqb}
 use Rattle.trees.specs.Lists.{nowhere, at, tabulate, zeros}
 use Rattle.trees.specs.Checks.{Verdict, accepted, refused, counted, Check, orElse, _⊳_, rowWords, outside}
 use Rattle.trees.specs.Valid.{isAccepted}
-use Rattle.trees.specs.Reporting.{majority, agreed, supports}
+use Rattle.trees.specs.Reporting.{agreed, supports}
+use Rattle.trees.specs.Thresholds.{leastThreshold, mostThreshold, threshold}
+use Rattle.trees.specs.Majority.{majority}
 use Rattle.trees.specs.BoolLaws.{and-l, and-r, decide}
 use Rattle.trees.specs.ListLaws.{length-zeros}
 use Rattle.trees.specs.ChainLaws.{Passed, Given, here, later, chain-holds, numbers}
-use Rattle.trees.specs.CheckLaws.{outside-not}
+use Rattle.trees.specs.CheckLaws.{outside-not, not-outside}
+use Rattle.trees.specs.ThresholdLaws.{threshold-fits}
 use Rattle.trees.specs.ValidLaws.{accepted-to}
 use Rattle.runs.specs.Runs.{every}
 use Rattle.runs.specs.Words.{inForce}
@@ -40,7 +43,7 @@ use Rattle.listing.specs.SlotLaws.{slot-refused, slots-taken, slot-numbe
 
 -- the report of the study that was given the first k slots
 abbrev pub fileReport : List ℕ → ℕ → ℕ → Report
-fileReport bytes n k = reported majority (fileStudy bytes n k) (zeros (rowWords n)) (zeros (rowWords n))
+fileReport bytes n k = reported (fileStudy bytes n k) 0 (zeros (rowWords n)) (zeros (rowWords n))
 
 -- A tree (RULES 9.2): the file is good, the study is opened, takes each slot and is reported; the rows are the report's.
 pub record Tree (bytes : List ℕ) (n k : ℕ) (row support : List ℕ) : Type 0 where
@@ -105,11 +108,14 @@ size-refused n e = rw e refl
 
 -- and line 14 of RULES 7.5 whether it is reported
 report-answer : (n : ℕ) (w : List ℕ) → Kept studyWords n w
-    → reported majority w (zeros (rowWords n)) (zeros (rowWords n)) .verdict ≡ cond (eqb (inForce w) 0) (refused 14 0) accepted
+    → reported w 0 (zeros (rowWords n)) (zeros (rowWords n)) .verdict ≡ cond (eqb (inForce w) 0) (refused 14 0) accepted
 unfolding reported reportChecks reportFormedChecks _⊳_
 report-answer n w h =
-    rw (formed-from w (h .formed), h .same, length-zeros (rowWords n), eq-eqb (rowWords n) (rowWords n) refl) (go (eqb (inForce w) 0))
+    rw (formed-from w (h .formed), h .same, length-zeros (rowWords n), eq-eqb (rowWords n) (rowWords n) refl, fits) (go (eqb (inForce w) 0))
   where
+    fits : outside leastThreshold mostThreshold (threshold 0) ≡ false
+    fits = not-outside leastThreshold mostThreshold (threshold 0) (threshold-fits .0) (threshold-fits .1)
+
     go : (b : Bool) → orElse 14 (cond b (at 0) nowhere) accepted ≡ cond b (refused 14 0) accepted
     go true = refl
     go false = refl
@@ -148,9 +154,9 @@ tree-from bytes n k row support t =
 chain-cases : (cs : List Check) → (cs ⊳ accepted ≡ accepted) ⊎ ((r : ℕ) × (p : ℕ) × (cs ⊳ accepted ≡ refused r p))
 chain-cases cs = chain-holds (λ v. (v ≡ accepted) ⊎ ((r : ℕ) × (p : ℕ) × (v ≡ refused r p))) cs accepted (λ r p g. inr (r, p, refl)) (λ h. inl refl)
 
-report-cases : (w a s : List ℕ) → (reported majority w a s .verdict ≡ accepted) ⊎ ((r : ℕ) × (p : ℕ) × (reported majority w a s .verdict ≡ refused r p))
+report-cases : (w : List ℕ) (t : ℕ) (a s : List ℕ) → (reported w t a s .verdict ≡ accepted) ⊎ ((r : ℕ) × (p : ℕ) × (reported w t a s .verdict ≡ refused r p))
 unfolding reported
-report-cases w a s = chain-cases (reportChecks w a s)
+report-cases w t a s = chain-cases (reportChecks w t a s)
 
 -- a slot of the first m is not taken
 abbrev Stuck : List ℕ → ℕ → ℕ → Type 0
@@ -235,7 +241,7 @@ listed-tree bytes n k row support = (λ e. go (comes bytes) e, tree-from bytes n
     go (stops r j p h) e = let x = refuses-listed bytes r j p h in let z : _≡_ {A = ℕ} 0 1 = cc in absurd (omega arith)
     go (whole f t) e =
         let x = zeros (rowWords m) in
-        ends f t (report-cases (fileStudy bytes m l) x x)
+        ends f t (report-cases (fileStudy bytes m l) 0 x x)
         (sym (whole-reports bytes (f .sound) (study-opens m (f .least) (f .most)) t) ∙ e)
 
 -- ---- of a file of bytes
@@ -304,7 +310,7 @@ module _ (bytes : List ℕ) (b : Bytes bytes) where
 
   -- a good file with slots, to none of which a line applies, is listed as the agreed tree of its runs
   pub listed-whole : Fit bytes → 0 < k → ((j : ℕ) → j < k → Passed (slotChecks bytes n j))
-      → listed bytes ≡ tree n k (agreed majority n (slotRuns bytes n k)) (supports majority n (slotRuns bytes n k))
+      → listed bytes ≡ tree n k (agreed (majority (threshold 0)) n (slotRuns bytes n k)) (supports (majority (threshold 0)) n (slotRuns bytes n k))
   listed-whole f some g = listed-tree bytes n k _ _ .1 (record {
     good = f .sound;
     samples = refl;
@@ -322,8 +328,8 @@ module _ (bytes : List ℕ) (b : Bytes bytes) where
       report : fileReport bytes n k .verdict ≡ accepted
       report = whole-answer f takes ∙ (rw (ne-eqb k 0 (λ e. omega arith)))
 
-      rows : (fileReport bytes n k .agreedRow ≡ agreed majority n (slotRuns bytes n k))
-          × (fileReport bytes n k .supportRow ≡ supports majority n (slotRuns bytes n k))
+      rows : (fileReport bytes n k .agreedRow ≡ agreed (majority (threshold 0)) n (slotRuns bytes n k))
+          × (fileReport bytes n k .supportRow ≡ supports (majority (threshold 0)) n (slotRuns bytes n k))
       rows =
           let x = zeros (rowWords n) in
-          rw (study-formed bytes f b k .same, study-runs bytes f b k takes) at (reported-rows majority (fileStudy bytes n k) x x report)
+          rw (study-formed bytes f b k .same, study-runs bytes f b k takes) at (reported-rows (fileStudy bytes n k) 0 x x report)

@@ -3,7 +3,6 @@ use Prim.Native.Nat.{ℕ, suc}
 use mathlib.Core.List.{List, [], _∷_, flatten}
 use Rattle.trees.specs.Lists.{tabulate, zeros}
 use Rattle.trees.specs.Checks.{Verdict, accepted, refused, counted, rowWords}
-use Rattle.trees.specs.Reporting.{majority}
 use Rattle.runs.specs.Calls.{opened}
 use Rattle.runs.specs.Histories.{Call, add, answers, after}
 use Rattle.runs.specs.Reports.{reported}
@@ -36,10 +35,10 @@ firstRefused (v ∷ vs) slot next = unless v slot (firstRefused vs (suc slot) ne
 abbrev pub slotCall : List ℕ → ℕ → ℕ → Call
 slotCall bytes n j = add (slotIdentifier bytes n j) (slotRow bytes n j)
 
--- what the report of a study comes to (RULES 9.2)
+-- what the report of a study comes to; no threshold is named (RULES 9.2)
 unfoldable pub reports : ℕ → ℕ → List ℕ → Listed
 reports n k w =
-    let r = reported majority w (zeros (rowWords n)) (zeros (rowWords n)) in
+    let r = reported w 0 (zeros (rowWords n)) (zeros (rowWords n)) in
     unless (r .verdict) 0 (tree n k (r .agreedRow) (r .supportRow))
 
 -- what becomes of a study that gets some calls, the first of them that of a slot, and is then reported (RULES 9.2)

@@ -10,7 +10,6 @@ use Rattle.trees.specs.Rows.{nodes}
 use Rattle.trees.specs.Checks.{Verdict, accepted, fewestSamples, mostSamples, rowWords}
 use Rattle.trees.specs.Valid.{Standard}
 use Rattle.trees.specs.ListLaws.{length-tabulate, getD-tabulate}
-use Rattle.trees.specs.Reporting.{majority}
 use Rattle.runs.specs.Calls.{opened, openChecks}
 use Rattle.runs.specs.CallLaws.{Kept, opened-words, opened-kept}
 use Rattle.runs.specs.Histories.{Call, called, answers, after}
@@ -115,12 +114,12 @@ slot-word bytes n j h = omega (arith, h (fileBytes n j), h (suc (fileBytes n j))
 -- ---- reporting
 
 -- the verdict asks only how long the two buffers are
-same-report : (w a s b t : List ℕ) → length a ≡ length b → length s ≡ length t → reported majority w a s .verdict ≡ reported majority w b t .verdict
+same-report : (w : List ℕ) (p : ℕ) (a s b t : List ℕ) → length a ≡ length b → length s ≡ length t → reported w p a s .verdict ≡ reported w p b t .verdict
 unfolding reported reportChecks reportFormedChecks
-same-report w a s b t e f = rw (e, f)
+same-report w p a s b t e f = rw (e, f)
 
 pub report-shows : (n k : ℕ) (w a s x y : List ℕ) (answer : Answer) → samples w ≡ n → length a ≡ rowWords n → length s ≡ rowWords n
-    → verdict answer ≡ reported majority w a s .verdict → x ≡ reported majority w a s .agreedRow → y ≡ reported majority w a s .supportRow
+    → verdict answer ≡ reported w 0 a s .verdict → x ≡ reported w 0 a s .agreedRow → y ≡ reported w 0 a s .supportRow
     → (shows (toldOf answer 0 n k) x y ≡ reports n k w) × Printable (toldOf answer 0 n k) x y
 unfolding reports
 report-shows n k w a s x y answer q la ls v ex ey = go answer v
@@ -128,19 +127,19 @@ report-shows n k w a s x y answer q la ls v ex ey = go answer v
     z : List ℕ
     z = zeros (rowWords n)
 
-    same : reported majority w a s .verdict ≡ reported majority w z z .verdict
-    same = same-report w a s z z (rw length-replicate la) (rw length-replicate ls)
+    same : reported w 0 a s .verdict ≡ reported w 0 z z .verdict
+    same = same-report w 0 a s z z (rw length-replicate la) (rw length-replicate ls)
 
-    go : (b : Answer) → verdict b ≡ reported majority w a s .verdict → (shows (toldOf b 0 n k) x y ≡ reports n k w) × Printable (toldOf b 0 n k) x y
+    go : (b : Answer) → verdict b ≡ reported w 0 a s .verdict → (shows (toldOf b 0 n k) x y ≡ reports n k w) × Printable (toldOf b 0 n k) x y
     go (Answer·Refused number place) e = (rw (← same, ← e) refl, tt)
     go Accepted e =
-        let std : Standard n x = rw (ex, ← q) (reported-standard w a s (sym e)) in
-        let long : length y ≡ rowWords n = rw (ey, ← q) (reported-length w a s (sym e)) in
-        let r = reported-rows majority w a s (sym e) in
-        let t = reported-rows majority w z z (sym (e ∙ same)) in
+        let std : Standard n x = rw (ex, ← q) (reported-standard w 0 a s (sym e)) in
+        let long : length y ≡ rowWords n = rw (ey, ← q) (reported-length w 0 a s (sym e)) in
+        let r = reported-rows w 0 a s (sym e) in
+        let t = reported-rows w 0 z z (sym (e ∙ same)) in
         let whole = take-all (rowWords n) x (omega (arith, std .valid .words)) in
-        let p : take (rowWords n) x ≡ reported majority w z z .agreedRow = whole ∙ ex ∙ r .0 ∙ sym (t .0) in
-        let d : take (rowWords n) y ≡ reported majority w z z .supportRow = take-all (rowWords n) y (omega arith) ∙ ey ∙ r .1 ∙ sym (t .1) in
+        let p : take (rowWords n) x ≡ reported w 0 z z .agreedRow = whole ∙ ex ∙ r .0 ∙ sym (t .0) in
+        let d : take (rowWords n) y ≡ reported w 0 z z .supportRow = take-all (rowWords n) y (omega arith) ∙ ey ∙ r .1 ∙ sym (t .1) in
         (rw (← same, ← e, p, d) refl, (rw whole std, omega arith))
 
 -- ---- the lines of a tree

@@ -12,7 +12,9 @@ use Rattle.trees.specs.Groups.{size, lowest, same, listFirst, before, member}
 use Rattle.trees.specs.Rows.{nodes, parent, meets, ends, groupAt, groups}
 use Rattle.trees.specs.Checks.{_⊳_, rowChecks}
 use Rattle.trees.specs.Numbering.{enter, ordered, groupSet, lastWith, parents, rowOf, renumbered}
-use Rattle.trees.specs.Reporting.{majority, support, total, held, shown, agreed, supports}
+use Rattle.trees.specs.Reporting.{support, total, held, shown, agreed, supportsOf, supports}
+use Rattle.trees.specs.Thresholds.{threshold}
+use Rattle.trees.specs.Majority.{isShown, majority}
 use Rattle.trees.specs.Case.{agreedRow, supportRow}
 use Rattle.trees.specs.BoolLaws.{and-l, and-r}
 use Rattle.trees.specs.ChainLaws.{Passed, chain-passed}
@@ -55,16 +57,16 @@ input-passed (suc (suc zero)) h = chain-passed (slotChecks input 5 2) refl
 input-passed (suc (suc (suc j))) h = absurd (omega arith)
 
 -- their agreed row and support row
-input-rows : (agreed majority 5 (slotRuns input 5 3) ≡ agreedRow) × (supports majority 5 (slotRuns input 5 3) ≡ supportRow)
+input-rows : (agreed (majority (threshold 0)) 5 (slotRuns input 5 3) ≡ agreedRow) × (supports (majority (threshold 0)) 5 (slotRuns input 5 3) ≡ supportRow)
 unfolding slotRuns insertRun slotIdentifier slotRow wordAt fileBytes bytesOf tabulate filter weigh size lowest same listFirst before member nodes parent
-    meets groupAt groups enter ordered groupSet lastWith parents rowOf renumbered support total held shown agreed supports
+    meets groupAt groups enter ordered groupSet lastWith parents rowOf renumbered support total held shown agreed supportsOf threshold isShown
 input-rows = (refl, refl)
 
 input-listed : listed input ≡ tree 5 3 agreedRow supportRow
 input-listed =
     let g = input-good in
     let whole = rw (← g .0, ← g .1) at (listed-whole input input-bytes input-fit) in
-    whole (omega arith) input-passed ∙ (rw (input-rows .0, input-rows .1))
+    whole (omega arith) input-passed ∙ (rw (input-rows .1, input-rows .0))
 
 -- from the file's 75 bytes to the whole output
 pub specimen-listed : listing input ≡ ascii "ARB 1 5 3\n5 - 3 0 1 2 3 4\n6 5 2 0 1 2\n7 6 2 0 1\n8 5 2 3 4\n"

@@ -22,6 +22,9 @@ use study::open;
 // The number of a bad file (check 15, RULES 7.5).
 const BAD_FILE: usize = 15;
 
+// The p of its report: no threshold is named (RULES 9.2).
+const NO_THRESHOLD: usize = 0;
+
 // The words of the study (RULES 9.2) and of the longest row; neither has more than 64 KiB (RULES 1.6).
 pub const STUDY_WORDS: usize = 32768;
 
@@ -111,7 +114,7 @@ fn report_ready(n: usize, k: usize, words: &[u16], agreed: &mut [u16], support: 
     ensures { λ r. ⌜ shows r (now (agreed .exit)) (now (support .exit)) ≡ reports n k (now (words .entry)) ⌝ }
     ensures { λ r. ⌜ Printable r (now (agreed .exit)) (now (support .exit)) ⌝ }
 {
-    told_of(report_formed(words, agreed, support), 0, n, k)
+    told_of(report_formed(words, NO_THRESHOLD, agreed, support), 0, n, k)
 }
 
 // What a file comes to, with the agreed row and the support row at the front of their buffers.

@@ -3,7 +3,7 @@
 //     1 open       x = n           a the study
 //     2 add        x = identifier  a the study, b the row
 //     3 withdraw   x = identifier  a the study
-//     4 report                     a the study, b the agreed row, c the support
+//     4 report     x = p           a the study, b the agreed row, c the support
 //     5 judge      x = n           a the row
 //     6 renumber   x = n           a the row, b the new row
 //     7 compare    x = n           a the first row, b the second
@@ -64,7 +64,7 @@ pub fn called(head: Head, a: &mut [u16], b: &mut [u16], c: &mut [u16]) -> Outcom
         OP_OPEN => Outcome::Told(opened(head, a)),
         OP_ADD => Outcome::Told(added(head, a, b)),
         OP_WITHDRAW => Outcome::Told(withdrawn(head, a)),
-        OP_REPORT => Outcome::Told(reported(a, b, c)),
+        OP_REPORT => Outcome::Told(reported(head, a, b, c)),
         OP_JUDGE => Outcome::Told(judged(head, a)),
         OP_RENUMBER => Outcome::Told(renumbered(head, a, b)),
         OP_COMPARE => Outcome::Told(compared(head, a, b)),
@@ -88,8 +88,8 @@ fn withdrawn(head: Head, a: &mut [u16]) -> Reply {
 }
 
 // The reply to reporting the study a in b and c.
-fn reported(a: &[u16], b: &mut [u16], c: &mut [u16]) -> Reply {
-    reply_to(arb::report(a, b, c))
+fn reported(head: Head, a: &[u16], b: &mut [u16], c: &mut [u16]) -> Reply {
+    reply_to(arb::report(a, wide(head.x), b, c))
 }
 
 // The reply to judging the row a.

@@ -6,10 +6,11 @@ use lib.Dec.{eqb, ltb, leb}
 use Rattle.trees.specs.Checks.{Check, line}
 use Rattle.trees.specs.RowCalls.{check3Both}
 use Rattle.trees.specs.Tables.{entry}
+use Rattle.runs.specs.Reports.{check16}
 
--- checks 3 and 14 of a report over n samples with k runs in force (RULES 7.5)
-abbrev pub givenChecks : ℕ → ℕ → List ℕ → List ℕ → List Check
-givenChecks n k a s = check3Both n a s ∷ line 14 (eqb k 0) ∷ []
+-- checks 3, 16 and 14 of a report over n samples at threshold t with k runs in force (RULES 7.8)
+abbrev pub givenChecks : ℕ → ℕ → ℕ → List ℕ → List ℕ → List Check
+givenChecks n t k a s = check3Both n a s ∷ check16 t ∷ line 14 (eqb k 0) ∷ []
 
 -- word w of the support row (RULES 5.5), by a table of the inner nodes: k runs hold the single samples
 abbrev pub supportWord : ℕ → ℕ → ℕ → List ℕ → ℕ → ℕ

@@ -1,10 +1,13 @@
 // The report of a study: its checks, the agreed row (RULES 5.4) and the support row (RULES 5.5).
+mod thresholds;
+
 ghost use mathlib.Core.Path.{_≡_};
 ghost use Prim.Native.Nat.{_<_, _≤_};
 ghost use lib.Dec.{eqb};
 ghost use lib.ListN.{length};
 ghost use Rattle.trees.specs.Checks.{accepted, _⊳_, asked, line, mostSamples, rowWords};
-ghost use Rattle.trees.specs.Reporting.{majority, agreed, supports};
+ghost use Rattle.trees.specs.Valid.{Standard};
+ghost use Rattle.trees.specs.Reporting.{supportsOf};
 ghost use Rattle.trees.specs.Tables.{Tabled, tableWords};
 ghost use Rattle.runs.specs.Words.{runs, mostRuns};
 ghost use Rattle.runs.specs.Formed.{Formed};
@@ -24,6 +27,8 @@ use passes::Table;
 use slots::in_force;
 use slots::samples;
 use study::study_given;
+use thresholds::threshold;
+use thresholds::threshold_given;
 
 // Check 14: no run is in force (RULES 7.5).
 fn runs_given(k: usize) -> Answer
@@ -32,14 +37,18 @@ fn runs_given(k: usize) -> Answer
     line(Refusal::EMPTY, k == 0)
 }
 
-// Checks 3 and 14, over n samples with k runs in force (RULES 7.5).
-fn report_given(n: usize, k: usize, agreed: &[u16], support: &[u16]) -> Answer
+// Checks 3, 16 and 14, over n samples at threshold t with k runs in force (RULES 7.8).
+fn report_given(n: usize, t: usize, k: usize, agreed: &[u16], support: &[u16]) -> Answer
     requires { ⌜ n ≤ mostSamples ⌝ }
-    ensures { λ r. ⌜ verdict r ≡ givenChecks n k (now (agreed .entry)) (now (support .entry)) ⊳ accepted ⌝ }
+    ensures { λ r. ⌜ verdict r ≡ givenChecks n t k (now (agreed .entry)) (now (support .entry)) ⊳ accepted ⌝ }
 {
     let a = words_both(n, agreed, support);
     let Answer::Accepted = a else {
         return a;
+    };
+    let b = threshold_given(t);
+    let Answer::Accepted = b else {
+        return b;
     };
     runs_given(k)
 }
@@ -70,10 +79,10 @@ fn write_supports(n: usize, m: usize, k: usize, holders: &Table, out: &mut [u16]
     }
 }
 
-// Writes the support row of the agreed row.
+// Writes the support row beside a row.
 fn support_row(n: usize, words: &[u16], k: usize, row: &[u16], out: &mut [u16])
-    requires { ⌜ Study (now words) n k × (0 < k) × (now row ≡ agreed majority n (runs (now words))) × (length (now out) ≡ rowWords n) ⌝ }
-    ensures { λ _. ⌜ now (out .exit) ≡ supports majority n (runs (now (words .entry))) ⌝ }
+    requires { ⌜ Study (now words) n k × Standard n (now row) × (length (now out) ≡ rowWords n) ⌝ }
+    ensures { λ _. ⌜ now (out .exit) ≡ supportsOf n (runs (now (words .entry))) (now (row .entry)) ⌝ }
 {
     let mut held: Table = [0; TABLE];
     holders(n, words, k, row, &mut held);
@@ -81,32 +90,33 @@ fn support_row(n: usize, words: &[u16], k: usize, row: &[u16], out: &mut [u16])
 }
 
 // The report of a study that is known to be well formed.
-pub fn report_formed(words: &[u16], agreed: &mut [u16], support: &mut [u16]) -> Answer
+pub fn report_formed(words: &[u16], p: usize, agreed: &mut [u16], support: &mut [u16]) -> Answer
     requires { ⌜ Formed (now words) ⌝ }
-    ensures answer { λ r. ⌜ verdict r ≡ reported majority (now (words .entry)) (now (agreed .entry)) (now (support .entry)) .verdict ⌝ }
-    ensures agreed { λ _. ⌜ now (agreed .exit) ≡ reported majority (now (words .entry)) (now (agreed .entry)) (now (support .entry)) .agreedRow ⌝ }
-    ensures support { λ _. ⌜ now (support .exit) ≡ reported majority (now (words .entry)) (now (agreed .entry)) (now (support .entry)) .supportRow ⌝ }
+    ensures answer { λ r. ⌜ verdict r ≡ reported (now (words .entry)) p (now (agreed .entry)) (now (support .entry)) .verdict ⌝ }
+    ensures agreed { λ _. ⌜ now (agreed .exit) ≡ reported (now (words .entry)) p (now (agreed .entry)) (now (support .entry)) .agreedRow ⌝ }
+    ensures support { λ _. ⌜ now (support .exit) ≡ reported (now (words .entry)) p (now (agreed .entry)) (now (support .entry)) .supportRow ⌝ }
 {
     let n = samples(words);
     let k = in_force(words);
-    let a = report_given(n, k, agreed, support);
+    let t = threshold(p);
+    let a = report_given(n, t, k, agreed, support);
     let Answer::Accepted = a else {
         return a;
     };
-    agreed_row(n, words, k, agreed, support);
+    agreed_row(n, words, k, t, agreed, support);
     support_row(n, words, k, agreed, support);
     Answer::Accepted
 }
 
-// The report: a refusal that leaves both buffers as they were, or the agreed row and the support row.
-pub fn report(words: &[u16], agreed: &mut [u16], support: &mut [u16]) -> Answer
-    ensures answer { λ r. ⌜ verdict r ≡ reported majority (now (words .entry)) (now (agreed .entry)) (now (support .entry)) .verdict ⌝ }
-    ensures agreed { λ _. ⌜ now (agreed .exit) ≡ reported majority (now (words .entry)) (now (agreed .entry)) (now (support .entry)) .agreedRow ⌝ }
-    ensures support { λ _. ⌜ now (support .exit) ≡ reported majority (now (words .entry)) (now (agreed .entry)) (now (support .entry)) .supportRow ⌝ }
+// The report at p: a refusal that leaves both buffers as they were, or the agreed row and the support row.
+pub fn report(words: &[u16], p: usize, agreed: &mut [u16], support: &mut [u16]) -> Answer
+    ensures answer { λ r. ⌜ verdict r ≡ reported (now (words .entry)) p (now (agreed .entry)) (now (support .entry)) .verdict ⌝ }
+    ensures agreed { λ _. ⌜ now (agreed .exit) ≡ reported (now (words .entry)) p (now (agreed .entry)) (now (support .entry)) .agreedRow ⌝ }
+    ensures support { λ _. ⌜ now (support .exit) ≡ reported (now (words .entry)) p (now (agreed .entry)) (now (support .entry)) .supportRow ⌝ }
 {
     let a = study_given(words);
     let Answer::Accepted = a else {
         return a;
     };
-    report_formed(words, agreed, support)
+    report_formed(words, p, agreed, support)
 }

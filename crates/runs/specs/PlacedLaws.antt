@@ -14,6 +14,7 @@ use Rattle.runs.specs.Words.{samples, inForce, runs, capacity, full}
 use Rattle.runs.specs.Formed.{wellFormed}
 use Rattle.runs.specs.Calls.{check11, check12, openChecks, addFormedChecks, addChecks, withdrawFormedChecks, withdrawChecks}
 use Rattle.runs.specs.FormedLaws.{formed-to}
+use Rattle.trees.specs.Thresholds.{leastThreshold, mostThreshold, threshold}
 use Rattle.runs.specs.Reports.{reportFormedChecks, reportChecks}
 
 -- one line more in front
@@ -36,7 +37,8 @@ pub withdrawn-placed : (w : List ℕ) (i : ℕ) → Placed mostPlaces (withdrawC
 unfolding withdrawChecks withdrawFormedChecks
 withdrawn-placed w i = front 2 (not (wellFormed w)) _ (front 4 (eqb i 0) _ (front 13 (not (present i (runs w))) _ (placed-none mostPlaces)))
 
-pub reported-placed : (w a s : List ℕ) → Placed mostPlaces (reportChecks w a s)
+pub reported-placed : (w : List ℕ) (p : ℕ) (a s : List ℕ) → Placed mostPlaces (reportChecks w p a s)
 unfolding reportChecks reportFormedChecks
-reported-placed w a s = front 2 (not (wellFormed w)) _ (front 3
-    (not (eqb (length a) (rowWords (samples w))) || not (eqb (length s) (rowWords (samples w)))) _ (front 14 (eqb (inForce w) 0) _ (placed-none mostPlaces)))
+reported-placed w p a s = front 2 (not (wellFormed w)) _ (front 3
+    (not (eqb (length a) (rowWords (samples w))) || not (eqb (length s) (rowWords (samples w)))) _
+    (front 16 (outside leastThreshold mostThreshold (threshold p)) _ (front 14 (eqb (inForce w) 0) _ (placed-none mostPlaces))))

@@ -3,10 +3,12 @@ use Prim.Native.Nat.{ℕ}
 use mathlib.Core.List.{List, [], _∷_}
 use mathlib.Core.Bool.{cond}
 use lib.Dec.{eqb}
-use Rattle.trees.specs.Checks.{Verdict, accepted, Check, line, _⊳_}
+use Rattle.trees.specs.Checks.{Verdict, accepted, Check, line, _⊳_, outside}
 use Rattle.trees.specs.Valid.{isAccepted}
 use Rattle.trees.specs.RowCalls.{check3Both}
-use Rattle.trees.specs.Reporting.{Rule, agreed, supports}
+use Rattle.trees.specs.Reporting.{agreed, supports}
+use Rattle.trees.specs.Thresholds.{leastThreshold, mostThreshold, threshold}
+use Rattle.trees.specs.Majority.{majority}
 use Rattle.runs.specs.Words.{samples, inForce, runs}
 use Rattle.runs.specs.Calls.{check2}
 
@@ -20,19 +22,24 @@ pub record Report : Type 0 where
 abbrev pub check14 : List ℕ → Check
 check14 w = line 14 (eqb (inForce w) 0)
 
--- the checks of reporting on a study that is known to be well formed, and on any (RULES 7.2)
-unfoldable pub reportFormedChecks : List ℕ → List ℕ → List ℕ → List Check
-reportFormedChecks w a s = check3Both (samples w) a s ∷ check14 w ∷ []
+-- check 16, of reporting: a threshold is out of range (RULES 7.5)
+abbrev pub check16 : ℕ → Check
+check16 t = line 16 (outside leastThreshold mostThreshold t)
 
-unfoldable pub reportChecks : List ℕ → List ℕ → List ℕ → List Check
-reportChecks w a s = check2 w ∷ reportFormedChecks w a s
+-- the checks of reporting on a study that is known to be well formed, and on any (RULES 7.8)
+unfoldable pub reportFormedChecks : List ℕ → ℕ → List ℕ → List ℕ → List Check
+reportFormedChecks w p a s = check3Both (samples w) a s ∷ check16 (threshold p) ∷ check14 w ∷ []
 
--- what reporting answers, and its two buffers after it: the agreed row and the support row (RULES 5.4, 5.5), or what they held before (RULES 7.4)
-unfoldable pub reported : Rule → List ℕ → List ℕ → List ℕ → Report
-reported rule w a s =
-    let yes = isAccepted (reportChecks w a s ⊳ accepted) in
+unfoldable pub reportChecks : List ℕ → ℕ → List ℕ → List ℕ → List Check
+reportChecks w p a s = check2 w ∷ reportFormedChecks w p a s
+
+-- what reporting at p answers, and its two buffers after it: the agreed row and the support row (RULES 5.4, 5.5), or what they held before (RULES 7.4)
+unfoldable pub reported : List ℕ → ℕ → List ℕ → List ℕ → Report
+reported w p a s =
+    let yes = isAccepted (reportChecks w p a s ⊳ accepted) in
+    let rule = majority (threshold p) in
     record {
-      verdict = reportChecks w a s ⊳ accepted;
+      verdict = reportChecks w p a s ⊳ accepted;
       agreedRow = cond yes (agreed rule (samples w) (runs w)) a;
       supportRow = cond yes (supports rule (samples w) (runs w)) s;
     }

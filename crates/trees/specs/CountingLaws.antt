@@ -15,7 +15,8 @@ use Rattle.trees.specs.Groups.{Group, whole, single, size, same, member}
 use Rattle.trees.specs.Rows.{nodes, groupAt, groups, inner, holds}
 use Rattle.trees.specs.Valid.{Valid, In, Strict, Standard}
 use Rattle.trees.specs.Numbering.{ordered, branching, rowOf}
-use Rattle.trees.specs.Reporting.{Run, Rule, majority, held, shown, references}
+use Rattle.trees.specs.Reporting.{Run, Rule, held, shown}
+use Rattle.trees.specs.Majority.{majority, references}
 use Rattle.trees.specs.Counting.{soFar}
 use Rattle.trees.specs.BoolLaws.{and-l, and-r, and-both, or-cases, or-l, or-r, true-eq, not-yes}
 use Rattle.trees.specs.ListLaws.{member-at, some-member}
@@ -26,7 +27,8 @@ use Rattle.trees.specs.RowLaws.{in-inner, inner-in, inner-two, groups-sp
 use Rattle.trees.specs.FamilyLaws.{Family}
 use Rattle.trees.specs.PlantingLaws.{planted}
 use Rattle.trees.specs.NumberingLaws.{row-tree}
-use Rattle.trees.specs.ReportingLaws.{Runs, Holder, in-held, held-in, Sound, shown-member, shown-strict, runs-least, runs-most, majority-early}
+use Rattle.trees.specs.ReportingLaws.{Runs, Holder, in-held, held-in, Sound, shown-member, shown-strict, runs-least, runs-most}
+use Rattle.trees.specs.MajorityLaws.{majority-early}
 use Rattle.trees.specs.Merging.{flagged, kept, merged}
 use Rattle.trees.specs.MergingLaws.{in-kept, kept-in, member-merged}
 
@@ -208,8 +210,8 @@ module _ (rule : Rule) (n : ℕ) (rs : List Run) (ok : (run : Run) → List·Mem
           (and-l (rule n rs x) (member x (held n rs)) (sym (shown-member rule n rs x) ∙ k))
           (in-tail x (whole n) (held n (take h rs)) (in-held n (take h rs) x (early x k))))
 
--- of a majority the first ⌈k/2⌉ runs are enough
-pub majority-so-far : (n : ℕ) (rs : List Run) → ((run : Run) → List·Memᴰ run rs → Standard n (run .row)) → 0 < length rs → Sound majority n rs
-    → soFar majority n rs (references (length rs)) ≡ branching (shown majority n rs)
-majority-so-far n rs ok some sound = so-far-all majority n rs ok some sound (references (length rs))
-    (λ x m. majority-early n rs x (and-l (majority n rs x) _ (sym (shown-member majority n rs x) ∙ m)))
+-- of a majority rule the runs that are tried are enough
+pub majority-so-far : (t n : ℕ) (rs : List Run) → ((run : Run) → List·Memᴰ run rs → Standard n (run .row)) → 0 < length rs → Sound (majority t) n rs
+    → soFar (majority t) n rs (references t (length rs)) ≡ branching (shown (majority t) n rs)
+majority-so-far t n rs ok some sound = so-far-all (majority t) n rs ok some sound (references t (length rs))
+    (λ x m. majority-early t n rs some x (and-l (majority t n rs x) _ (sym (shown-member (majority t) n rs x) ∙ m)))

@@ -6,6 +6,8 @@ pub mod Valid
 pub mod Numbering
 pub mod Comparing
 pub mod Reporting
+pub mod Thresholds
+pub mod Majority
 pub mod Outcomes
 pub mod RowCalls
 pub mod Case
@@ -33,6 +35,8 @@ pub mod BelowLaws
 pub mod NumberingLaws
 pub mod ComparingLaws
 pub mod ReportingLaws
+pub mod ThresholdLaws
+pub mod MajorityLaws
 pub mod OutcomeLaws
 pub mod RowCallLaws
 pub mod PlacedLaws

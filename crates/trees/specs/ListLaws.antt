@@ -1,5 +1,5 @@
 -- Tables by index, scans of a range, and weights of the members of a list. Assumes nothing.
-use Prim.Native.Nat.{ℕ, zero, suc, _+_, _-_, _*_, _≤_, _<_, zero-le, suc-le-suc}
+use Prim.Native.Nat.{ℕ, zero, suc, _+_, _-_, _≤_, _<_, zero-le, suc-le-suc}
 use mathlib.Core.Path.{_≡_, refl, sym, ap, _∙_}
 use mathlib.Core.Logic.{_⊎_, inl, inr, ⊎-elim}
 use mathlib.Core.List.{List, [], _∷_, _++_, List·Memᴰ, List·Memᴰ·head, List·Memᴰ·tail, map}
@@ -8,7 +8,7 @@ use native.Mathlib.Nat.{le-of-suc-le-suc, suc-inj, add-zero, add-suc, suc-add, e
 use native.Mathlib.Omega.{arith}
 use lib.Dec.{eqb, ltb}
 use lib.ListN.{length, getD, take, drop, take-append-drop, length-drop, length-replicate}
-use borrow.Author.Tests.{ltb-true, ltb-false, eqb-true, eqb-false, eq-eqb, ne-eqb, not-true}
+use borrow.Author.Tests.{ltb-true, ltb-false, eqb-true, eqb-false, eq-eqb, ne-eqb, not-true, not-false}
 use Rattle.trees.specs.Lists.{tabulate, zeros, range, Place, nowhere, at, first, weigh, count}
 use Rattle.trees.specs.BoolLaws.{and-l, and-r, or-cases, or-r, not-yes, decide}
 
@@ -271,8 +271,17 @@ module _ {A : Type 0} where
   pub count-le-length : (t : A → Bool) (xs : List A) → count t xs ≤ length xs
   count-le-length t xs = omega (arith, weigh-mono (λ x. 1) t (λ x. true) xs (λ x m e. refl), count-all (λ x. true) xs (λ x m. refl))
 
-  -- more than half of a list pass: one of the first half does
-  pub count-early : (t : A → Bool) (xs : List A) (h : ℕ) → length xs < 2 * count t xs → length xs ≤ 2 * h → (x : A) × List·Memᴰ x (take h xs) × (t x ≡ true)
+  -- as many pass as there are: each does
+  pub count-every : (t : A → Bool) (xs : List A) → count t xs ≡ length xs → (x : A) → List·Memᴰ x xs → t x ≡ true
+  count-every t xs e x m = not-false (t x) (not-yes _ (λ q. absurd (omega (
+    arith,
+    weigh-one (λ y. 1) (λ y. not (t y)) xs x m q,
+    weigh-apart (λ y. 1) t (λ y. not (t y)) (λ y. true) xs (λ y i f. (refl, ap not f)) (λ y i f. refl),
+    count-all (λ y. true) xs (λ y i. refl),
+  ))))
+
+  -- some pass, and fewer than h do not: one of the first h passes
+  pub count-early : (t : A → Bool) (xs : List A) (h : ℕ) → 1 ≤ count t xs → length xs < count t xs + h → (x : A) × List·Memᴰ x (take h xs) × (t x ≡ true)
   count-early t xs h a b = weigh-found (λ x. 1) t (take h xs) (omega (
     arith,
     ap (λ (ys : List A). count t ys) (take-append-drop h xs),

@@ -1,8 +1,7 @@
 -- The report (RULES 5): what runs hold, the groups that a rule shows, and the two rows that are written.
-use Prim.Native.Nat.{ℕ, _+_, _-_, _*_, _/_}
+use Prim.Native.Nat.{ℕ, _-_}
 use mathlib.Core.List.{List, [], _∷_, _++_, map}
 use mathlib.Core.Bool.{Bool, true}
-use lib.Dec.{ltb}
 use Rattle.trees.specs.Lists.{filter, weigh, zeros}
 use Rattle.trees.specs.Groups.{Group}
 use Rattle.trees.specs.Rows.{nodes, groups, holds}
@@ -30,10 +29,6 @@ total rs = weigh worth (λ run. true) rs
 abbrev pub Rule : Type 0
 Rule = ℕ → List Run → Group → Bool
 
--- 2s > k: more than half of the runs hold the group (RULES 5.1), and half is not enough (RULES 5.2)
-abbrev pub majority : Rule
-majority n rs g = ltb (total rs) (2 * support n rs g)
-
 -- the groups of all runs
 unfoldable pub held : ℕ → List Run → List Group
 held n [] = []
@@ -47,10 +42,10 @@ shown rule n rs = filter (rule n rs) (ordered (held n rs))
 unfoldable pub agreed : Rule → ℕ → List Run → List ℕ
 agreed rule n rs = rowOf n (branching (shown rule n rs))
 
--- the support row: k, then the support of each node of the agreed row, then filler (RULES 5.5)
-unfoldable pub supports : Rule → ℕ → List Run → List ℕ
-supports rule n rs = let r = agreed rule n rs in total rs ∷ (map (support n rs) (groups n r) ++ zeros (rowWords n - 1 - nodes r))
+-- the support row beside a row: k, then the support of each node of it, then filler (RULES 5.5)
+unfoldable pub supportsOf : ℕ → List Run → List ℕ → List ℕ
+supportsOf n rs r = total rs ∷ (map (support n rs) (groups n r) ++ zeros (rowWords n - 1 - nodes r))
 
--- how many runs are tried for groups that a majority may hold (`majority-early`)
-abbrev pub references : ℕ → ℕ
-references k = (k + 1) / 2
+-- the support row (RULES 5.5)
+abbrev pub supports : Rule → ℕ → List Run → List ℕ
+supports rule n rs = supportsOf n rs (agreed rule n rs)

@@ -1,28 +1,25 @@
--- What a rule shows is a tree, where what it shows agrees pairwise; the majority rule shows exactly the majority groups. Assumes nothing.
-use Prim.Native.Nat.{ℕ, zero, suc, _+_, _-_, _*_, _≤_, _<_}
+-- What a rule shows is a tree, where what it shows agrees pairwise; the support row word by word. Assumes nothing.
+use Prim.Native.Nat.{ℕ, zero, suc, _+_, _-_, _≤_, _<_}
 use mathlib.Core.Path.{_≡_, refl, sym, ap, _∙_}
 use mathlib.Core.Logic.{⊎-elim}
 use mathlib.Core.List.{List, [], _∷_, _++_, List·Memᴰ, List·Memᴰ·head, List·Memᴰ·tail}
 use mathlib.Core.Bool.{true, _&&_}
 use native.Mathlib.Nat.{zero-add}
 use native.Mathlib.Omega.{arith}
-use lib.Dec.{ltb}
-use lib.ListN.{length, getD, take, length-append, List·getD-append}
+use lib.ListN.{length, getD, length-append, List·getD-append}
 use lib.Seq.{getD-append-add}
-use borrow.Author.Tests.{ltb-true, lt-ltb}
 use Rattle.trees.specs.Lists.{tabulate, zeros}
 use Rattle.trees.specs.Groups.{Group, whole, single, member}
 use Rattle.trees.specs.Rows.{nodes, groupAt, groups, inner, holds}
 use Rattle.trees.specs.Checks.{fewestSamples, mostSamples, rowWords}
 use Rattle.trees.specs.Valid.{Valid, In, Strict, Standard}
 use Rattle.trees.specs.Numbering.{ordered, branching}
-use Rattle.trees.specs.Reporting.{Run, worth, support, total, Rule, majority, held, shown, agreed, supports, references}
-use Rattle.trees.specs.BoolLaws.{and-l, and-r, and-both, or-cases, or-l, or-r, true-eq}
+use Rattle.trees.specs.Reporting.{Run, worth, support, total, Rule, held, shown, agreed, supportsOf}
+use Rattle.trees.specs.BoolLaws.{and-r, and-both, or-cases, or-l, or-r}
 use Rattle.trees.specs.ListLaws.{some-member, length-tabulate, getD-tabulate, map-tabulate, length-zeros, getD-zeros}
-use Rattle.trees.specs.ListLaws.{weigh-mono, weigh-found, weigh-both, count-all, count-early}
+use Rattle.trees.specs.ListLaws.{weigh-mono, count-all}
 use Rattle.trees.specs.GroupLaws.{Agree}
 use Rattle.trees.specs.MemberLaws.{in-none, member-ordered, member-append, member-filter, strict-ordered, strict-filter}
-use Rattle.trees.specs.RowLaws.{groups-in}
 use Rattle.trees.specs.PlantingLaws.{planted}
 use Rattle.trees.specs.NumberingLaws.{Tree, row-tree, tree-family, tree-standard, tree-groups}
 
@@ -48,6 +45,22 @@ unfolding held
 held-in n [] g m = absurd (in-none g m)
 held-in n (r ∷ rs) g m = ⊎-elim (λ e. (r, List·Memᴰ·head refl, e)) (λ e. let t = held-in n rs g e in (t .0, List·Memᴰ·tail (t .1), t .2))
     (or-cases (holds n g (r .row)) (member g (held n rs)) (sym (member-append g (groups n (r .row)) (held n rs)) ∙ m))
+
+-- ---- how many runs
+
+pub total-length : (rs : List Run) → total rs ≡ length rs
+unfolding total
+total-length rs = count-all (λ run. true) rs (λ run m. refl)
+
+-- no group is held by more runs than there are
+pub support-most : (n : ℕ) (rs : List Run) (g : Group) → support n rs g ≤ total rs
+unfolding support total
+support-most n rs g = weigh-mono worth (λ run. holds n g (run .row)) (λ run. true) rs (λ run m e. refl)
+
+-- what every run holds has as many holders as there are runs
+pub support-all : (n : ℕ) (rs : List Run) (g : Group) → ((run : Run) → List·Memᴰ run rs → holds n g (run .row) ≡ true) → support n rs g ≡ length rs
+unfolding support
+support-all n rs g f = count-all (λ run. holds n g (run .row)) rs f
 
 -- ---- any rule
 
@@ -109,101 +122,36 @@ module _ (rule : Rule) (n : ℕ) (rs : List Run) (ok : Runs n rs) (some : 0 < le
   unfolding agreed
   agreed-groups g = tree-groups n (shown rule n rs) shown-tree (shown-strict rule n rs) least most g
 
-  -- ---- the support row, word by word
+-- ---- the support row beside a row, word by word
 
+module _ (n : ℕ) (rs : List Run) (r : List ℕ) where
   abbrev m : ℕ
-  m = nodes (agreed rule n rs)
+  m = nodes r
 
   abbrev at-node : ℕ → ℕ
-  at-node v = support n rs (groupAt n (agreed rule n rs) v)
+  at-node v = support n rs (groupAt n r v)
 
-  words : supports rule n rs ≡ total rs ∷ (tabulate m at-node 0 ++ zeros (rowWords n - 1 - m))
-  unfolding supports groups
-  words = ap (λ (ws : List ℕ). total rs ∷ (ws ++ zeros (rowWords n - 1 - m))) (map-tabulate (support n rs) m (groupAt n (agreed rule n rs)) 0)
+  words : supportsOf n rs r ≡ total rs ∷ (tabulate m at-node 0 ++ zeros (rowWords n - 1 - m))
+  unfolding supportsOf groups
+  words = ap (λ (ws : List ℕ). total rs ∷ (ws ++ zeros (rowWords n - 1 - m))) (map-tabulate (support n rs) m (groupAt n r) 0)
 
-  pub supports-length : length (supports rule n rs) ≡ rowWords n
-  supports-length = ap length words ∙ simp (length-append, length-tabulate, length-zeros) (omega (arith, agreed-standard .valid .high))
+  pub supports-length : nodes r < rowWords n → length (supportsOf n rs r) ≡ rowWords n
+  supports-length h = ap length words ∙ simp (length-append, length-tabulate, length-zeros) (omega arith)
 
   -- its first word is k (RULES 5.5)
-  pub supports-first : getD (supports rule n rs) 0 0 ≡ total rs
+  pub supports-first : getD (supportsOf n rs r) 0 0 ≡ total rs
   supports-first = ap (λ (ws : List ℕ). getD ws 0 0) words
 
   -- the word of node v is how many runs hold its group (RULES 5.5)
-  pub supports-node : (v : ℕ) → v < nodes (agreed rule n rs) → getD (supports rule n rs) (suc v) 0 ≡ support n rs (groupAt n (agreed rule n rs) v)
+  pub supports-node : (v : ℕ) → v < nodes r → getD (supportsOf n rs r) (suc v) 0 ≡ support n rs (groupAt n r v)
   supports-node v h = ap (λ (ws : List ℕ). getD ws (suc v) 0) words
       ∙ List·getD-append (tabulate m at-node 0) (zeros (rowWords n - 1 - m)) 0 v (rw length-tabulate h) ∙ getD-tabulate m at-node 0 v 0 h
       ∙ ap at-node (zero-add v)
 
   -- the words after the last node's are 0 (RULES 5.5)
-  pub supports-filler : (w : ℕ) → nodes (agreed rule n rs) < w → getD (supports rule n rs) w 0 ≡ 0
+  pub supports-filler : (w : ℕ) → nodes r < w → getD (supportsOf n rs r) w 0 ≡ 0
   supports-filler zero h = absurd (omega arith)
   supports-filler (suc w) h =
       let e : w ≡ length (tabulate m at-node 0) + (w - m) = (rw length-tabulate (omega arith)) in
       ap (λ (ws : List ℕ). getD ws (suc w) 0) words ∙ ap (λ (i : ℕ). getD (tabulate m at-node 0 ++ zeros (rowWords n - 1 - m)) i 0) e
       ∙ getD-append-add (tabulate m at-node 0) (zeros (rowWords n - 1 - m)) (w - m) 0 ∙ getD-zeros (rowWords n - 1 - m) (w - m)
-
--- ---- the majority rule
-
-pub total-length : (rs : List Run) → total rs ≡ length rs
-unfolding total
-total-length rs = count-all (λ run. true) rs (λ run m. refl)
-
--- no group is held by more runs than there are
-pub support-most : (n : ℕ) (rs : List Run) (g : Group) → support n rs g ≤ total rs
-unfolding support total
-support-most n rs g = weigh-mono worth (λ run. holds n g (run .row)) (λ run. true) rs (λ run m e. refl)
-
--- a group that passes has 2s > k (RULES 5.1)
-pub majority-more : (n : ℕ) (rs : List Run) (g : Group) → majority n rs g ≡ true → total rs < 2 * support n rs g
-majority-more n rs g e = ltb-true _ _ e
-
--- a majority group is held by some run
-pub majority-held : (n : ℕ) (rs : List Run) (g : Group) → majority n rs g ≡ true → Holder n g rs
-unfolding support
-majority-held n rs g e = weigh-found worth (λ run. holds n g (run .row)) rs (omega (arith, majority-more n rs g e))
-
--- two groups each held by more than half of the runs are held together by one run (RULES 5.3)
-pub majority-together : (n : ℕ) (rs : List Run) (g h : Group) → majority n rs g ≡ true → majority n rs h ≡ true
-    → (run : Run) × List·Memᴰ run rs × (holds n g (run .row) ≡ true) × (holds n h (run .row) ≡ true)
-unfolding support total
-majority-together n rs g h a b = weigh-both worth (λ run. holds n g (run .row)) (λ run. holds n h (run .row)) rs
-    (omega (arith, majority-more n rs g a, majority-more n rs h b))
-
--- so they agree
-pub majority-agree : (n : ℕ) (rs : List Run) → Runs n rs → (g h : Group) → majority n rs g ≡ true → majority n rs h ≡ true → Agree g h
-majority-agree n rs ok g h a b = let t = majority-together n rs g h a b in row-tree n (t .0 .row) (ok (t .0) (t .1)) .agree g h (t .2) (t .3)
-
--- a majority group is held by one of the first ⌈k/2⌉ runs
-pub majority-early : (n : ℕ) (rs : List Run) (g : Group) → majority n rs g ≡ true → Holder n g (take (references (length rs)) rs)
-unfolding support
-majority-early n rs g e = count-early (λ run. holds n g (run .row)) rs (references (length rs))
-    (omega (arith, total-length rs, majority-more n rs g e)) (half (length rs))
-  where
-    half : (k : ℕ) → k ≤ 2 * references k
-    half k = omega arith
-
-module _ (n : ℕ) (rs : List Run) (ok : Runs n rs) (some : 0 < length rs) where
-  pub majority-sound : Sound majority n rs
-  unfolding support total
-  majority-sound = record {
-    agree = λ g h m k. majority-agree n rs ok g h (and-l _ (member g (held n rs)) (sym (shown-member majority n rs g) ∙ m))
-        (and-l _ (member h (held n rs)) (sym (shown-member majority n rs h) ∙ k));
-    unanimous = λ g f. lt-ltb (total rs) (2 * support n rs g)
-        (omega (arith, total-length rs, weigh-mono worth (λ run. true) (λ run. holds n g (run .row)) rs (λ run m e. f run m)));
-  }
-
-  pub majority-standard : Standard n (agreed majority n rs)
-  majority-standard = agreed-standard majority n rs ok some majority-sound
-
-  -- DEMAND 2, of the definition: of all groups whatever, exactly those held by more than half of the runs are groups of the agreed row (RULES D2)
-  pub majority-groups : (g : Group) → member g (groups n (agreed majority n rs)) ≡ ltb (length rs) (2 * support n rs g)
-  majority-groups g = agreed-groups majority n rs ok some majority-sound g ∙ shown-member majority n rs g
-      ∙ true-eq (majority n rs g && member g (held n rs)) (majority n rs g) (and-l _ (member g (held n rs)))
-      (λ e. and-both _ _ e (in-held n rs g (majority-held n rs g e)))
-      ∙ ap (λ (k : ℕ). ltb k (2 * support n rs g)) (total-length rs)
-
-  -- each shown node has a support above k/2, and of k at most (RULES 5.6)
-  pub majority-supports : (v : ℕ) → v < nodes (agreed majority n rs)
-      → (length rs < 2 * support n rs (groupAt n (agreed majority n rs) v)) × (support n rs (groupAt n (agreed majority n rs) v) ≤ length rs)
-  majority-supports v h = let g = groupAt n (agreed majority n rs) v in
-      (ltb-true _ _ (sym (majority-groups g) ∙ groups-in n (agreed majority n rs) v h), omega (arith, total-length rs, support-most n rs g))

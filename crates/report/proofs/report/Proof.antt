@@ -20,7 +20,8 @@ returns c =
     let st : tie.Start = search needs in
     let a = st .args in
     let g : tie.After-study-given = search needs in
-    report-unformed (now (a .words)) (g .study-given .result) (g .study-given .ensures) _ _ (c .enum-told2 .given .1) (now (a .agreed)) (now (a .support))
+    report-unformed (now (a .words)) (g .study-given .result) (g .study-given .ensures) _ _ (c .enum-told2 .given .1) (a .p) (now (a .agreed))
+    (now (a .support))
 
 report-formed-requires : tie.Need-report-formed-requires
 report-formed-requires c κs = search study-formed

@@ -1,13 +1,12 @@
--- `report::support_row` writes the holders of the agreed row. Assumes nothing.
+-- `report::support_row` writes the holders of the row. Assumes nothing.
 use Prim.Native.Nat.{ℕ}
 use mathlib.Core.Path.{_∙_}
 use native.Mathlib.Omega.{arith}
 use lib.ListN.{length-replicate}
 use denote.Ref.{now}
-use Rattle.trees.specs.Valid.{Standard}
 use Rattle.trees.specs.FallsLaws.{few, standard-falls}
 use Rattle.count.specs.StudyLaws.{study-few}
-use Rattle.report.specs.SupportLaws.{agreed-row, support-row}
+use Rattle.report.specs.SupportLaws.{support-row}
 use borrow.Author.Needs.{needs}
 use Rattle.report.proofs.support_row.Statement.{statement}
 use Rattle.report.proofs.support_row.Tie as tie
@@ -16,23 +15,20 @@ holders-requires : tie.Need-holders-requires
 holders-requires c κs =
     let st : tie.Start = search needs in
     let a = st .args in
-    let q : Standard (a .n) (now (a .row)) = rw (st .pre .2) (agreed-row (now (a .words)) (a .n) (a .k) (st .pre .0) (st .pre .1)) in
-    (st .pre .0, q, length-replicate {A = ℕ} 1024 0)
+    (st .pre .0, st .pre .1, length-replicate {A = ℕ} 1024 0)
 
 nodes-requires : tie.Need-nodes-requires
 nodes-requires c κs =
     let st : tie.Start = search needs in
     let a = st .args in
-    let q : Standard (a .n) (now (a .row)) = rw (st .pre .2) (agreed-row (now (a .words)) (a .n) (a .k) (st .pre .0) (st .pre .1)) in
-    omega (arith, q .valid .words, q .valid .least)
+    omega (arith, st .pre .1 .valid .words, st .pre .1 .valid .least)
 
 write-supports-requires : tie.Need-write-supports-requires
 write-supports-requires c κs =
     let st : tie.Start = search needs in
     let a = st .args in
-    let q : Standard (a .n) (now (a .row)) = rw (st .pre .2) (agreed-row (now (a .words)) (a .n) (a .k) (st .pre .0) (st .pre .1)) in
     let d : tie.After-nodes = search needs in
-    (omega (arith, d .nodes .ensures, few _ _ (standard-falls _ _ q)), study-few _ _ _ (st .pre .0))
+    (omega (arith, d .nodes .ensures, few _ _ (standard-falls _ _ (st .pre .1))), study-few _ _ _ (st .pre .0))
 
 same-length : tie.Need-same-length
 same-length c = search needs
@@ -44,8 +40,8 @@ returns c =
     let h : tie.After-holders = search needs in
     let d : tie.After-nodes = search needs in
     let x : tie.After-write-supports = search needs in
-    support-row (now (a .words)) (a .n) (a .k) (st .pre .0) (st .pre .1) (now (a .row)) _ (st .pre .2) (h .holders .ensures .0) _ _ (d .nodes .ensures)
-    (x .write-supports .kept .1 .1 .1 .1 .0 ∙ st .pre .3) (rw (st .pre .3) at (x .write-supports .ensures))
+    support-row (now (a .words)) (a .n) (a .k) (st .pre .0) (now (a .row)) _ (st .pre .1) (h .holders .ensures .0) _ _ (d .nodes .ensures)
+    (x .write-supports .kept .1 .1 .1 .1 .0 ∙ st .pre .2) (rw (st .pre .2) at (x .write-supports .ensures))
 
 pub support-row-spec : {M : Type 1} → statement M
 support-row-spec =

@@ -4,7 +4,8 @@ use mathlib.Core.Path.{_≡_, sym, _∙_}
 use native.Mathlib.Omega.{arith}
 use lib.ListN.{length}
 use Rattle.trees.specs.Checks.{rowWords}
-use Rattle.trees.specs.Reporting.{references}
+use Rattle.trees.specs.Majority.{references}
+use Rattle.trees.specs.MajorityLaws.{references-most}
 use Rattle.count.specs.StudyLaws.{study-least, study-most, study-few}
 use Rattle.count.specs.PlainLaws.{accepted-start, accepted-end}
 use Rattle.count.specs.Plain.{accepted}
@@ -13,11 +14,11 @@ use Rattle.count.proofs.plain.agreed_row.Statement.{statement}
 use Rattle.count.proofs.plain.agreed_row.Tie as tie
 
 abbrev Inv-loop : tie.InvT-loop
-Inv-loop n words k out₀ spare₀ last tried₀ out spare tried = (tried ≤ last) × (last ≡ references k) × (out ≡ accepted n words tried) ×
+Inv-loop n words k t out₀ spare₀ last tried₀ out spare tried = (tried ≤ last) × (last ≡ references t k) × (out ≡ accepted t n words tried) ×
     (length out ≡ rowWords n) × (length spare ≡ rowWords n)
 
 abbrev μ-loop : tie.MeasureT-loop
-μ-loop n words k out₀ spare₀ last tried₀ out spare tried = last - tried
+μ-loop n words k t out₀ spare₀ last tried₀ out spare tried = last - tried
 
 bare-requires : tie.Need-bare-requires Inv-loop μ-loop
 bare-requires c κs =
@@ -27,19 +28,24 @@ bare-requires c κs =
 references-requires : tie.Need-references-requires Inv-loop μ-loop
 references-requires c κs =
     let st : tie.Start Inv-loop μ-loop = search needs in
-    study-few _ _ _ (st .pre .0)
+    (st .pre .4 .1, study-few _ _ _ (st .pre .0))
 
 loop-holds : tie.Need-loop-holds Inv-loop μ-loop
 loop-holds c =
     let st : tie.Start Inv-loop μ-loop = search needs in
-    let b : tie.After-bare Inv-loop μ-loop = search needs in
-    (omega arith, c .references .ensures, b .bare .ensures ∙ accepted-start _ _ _ (st .pre .0) (st .pre .1), b .bare .kept .1 .0 ∙ st .pre .2, st .pre .3)
+    let b : tie.After-bare Inv-loop μ-loop = search needs in (
+      omega arith,
+      c .references .ensures,
+      b .bare .ensures ∙ accepted-start _ _ _ _ (st .pre .0) (st .pre .1) (st .pre .4),
+      b .bare .kept .1 .0 ∙ st .pre .2,
+      st .pre .3,
+    )
 
 take-in-requires : tie.Need-take-in-requires Inv-loop μ-loop
 take-in-requires c κs =
     let st : tie.Start Inv-loop μ-loop = search needs in
     let l : tie.At-loop Inv-loop μ-loop = search needs in
-    (st .pre .0, omega (arith, l .loop .inv .1), l .loop .inv .2, l .loop .inv .4)
+    (st .pre .0, omega (arith, l .loop .inv .1, references-most (st .args .t) (st .args .k) (st .pre .1)), l .loop .inv .2, l .loop .inv .4, st .pre .4)
 
 add-tried : tie.Need-add-tried Inv-loop μ-loop
 add-tried c = search needs
@@ -51,8 +57,13 @@ loop-again : tie.Need-loop-again Inv-loop μ-loop
 loop-again c =
     let st : tie.Start Inv-loop μ-loop = search needs in
     let l : tie.At-loop Inv-loop μ-loop = search needs in
-    let t : tie.After-take-in Inv-loop μ-loop = search needs in
-    (omega arith, l .loop .inv .1, t .take-in .ensures, t .take-in .kept .1 .1 .1 .1 .0 ∙ l .loop .inv .3, t .take-in .kept .1 .1 .1 .1 .1 .0 ∙ l .loop .inv .4)
+    let t : tie.After-take-in Inv-loop μ-loop = search needs in (
+      omega arith,
+      l .loop .inv .1,
+      t .take-in .ensures,
+      t .take-in .kept .1 .1 .1 .1 .1 .0 ∙ l .loop .inv .3,
+      t .take-in .kept .1 .1 .1 .1 .1 .1 .0 ∙ l .loop .inv .4,
+    )
 
 same-length : tie.Need-same-length Inv-loop μ-loop
 same-length c =
@@ -70,8 +81,8 @@ returns : tie.Need-returns Inv-loop μ-loop
 returns c =
     let st : tie.Start Inv-loop μ-loop = search needs in
     let l : tie.At-loop Inv-loop μ-loop = search needs in
-    let e : l .loop .tried ≡ references (st .args .k) = omega (arith, l .loop .inv .1) in
-    (rw e at (l .loop .inv .2)) ∙ accepted-end _ _ _ (st .pre .0) (st .pre .1)
+    let e : l .loop .tried ≡ references (st .args .t) (st .args .k) = omega (arith, l .loop .inv .1) in
+    (rw e at (l .loop .inv .2)) ∙ accepted-end _ _ _ _ (st .pre .0) (st .pre .1) (st .pre .4)
 
 pub agreed-row-spec : {M : Type 1} → statement M
 agreed-row-spec =

@@ -52,8 +52,13 @@ marks-requires c κs =
     let a = st .args in
     let r : tie.After-run-row = search needs in
     let q : Standard (a .n) (now (r .run-row .result)) = rw (r .run-row .ensures) (study-standard _ _ _ (st .pre .0) (a .i) (st .pre .1)) in
-    let d : tie.After-nodes = search needs in
-    (omega (arith, d .nodes .ensures, q .valid .low), omega (arith, d .nodes .ensures, few _ _ (standard-falls _ _ q)), length-replicate {A = Bool} 1024 false)
+    let d : tie.After-nodes = search needs in (
+      omega (arith, d .nodes .ensures, q .valid .low),
+      omega (arith, d .nodes .ensures, few _ _ (standard-falls _ _ q)),
+      length-replicate {A = Bool} 1024 false,
+      st .pre .4 .1,
+      study-few _ _ _ (st .pre .0),
+    )
 
 merge-requires : tie.Need-merge-requires
 merge-requires c κs =
@@ -62,8 +67,8 @@ merge-requires c κs =
     let a = st .args in
     let r = taken x .run-row .ensures in
     let some : 0 < a .k = omega (arith, st .pre .1) in (
-      accepted-mergeable (now (a .words)) (a .n) (a .k) (st .pre .0) some (a .i) _ _ _ _ _ (st .pre .1) (st .pre .2) r (counted x .holders .ensures .0)
-          (noded x .nodes .ensures) (x .marks .ensures .0),
+      accepted-mergeable (now (a .words)) (a .n) (a .k) (a .t) (st .pre .0) some (st .pre .4) (a .i) _ _ _ _ _ (st .pre .1) (st .pre .2) r
+          (counted x .holders .ensures .0) (noded x .nodes .ensures) (x .marks .ensures .0),
       st .pre .3,
     )
 
@@ -74,7 +79,7 @@ copy-requires c κs =
     let a = st .args in
     let some : 0 < a .k = omega (arith, st .pre .1) in
     let m : tie.After-merge = search needs in
-    ap length (st .pre .2) ∙ accepted-standard (now (a .words)) (a .n) (a .k) (st .pre .0) some (a .i) .valid .words ∙ sym
+    ap length (st .pre .2) ∙ accepted-standard (now (a .words)) (a .n) (a .k) (a .t) (st .pre .0) some (st .pre .4) (a .i) .valid .words ∙ sym
     (m .merge .kept .1 .1 .1 .1 .1 .0 ∙ st .pre .3)
 
 same-length : tie.Need-same-length
@@ -92,8 +97,8 @@ returns c =
     let some : 0 < a .k = omega (arith, st .pre .1) in
     let m : tie.After-merge = search needs in
     let y : tie.After-copy = search needs in
-    y .copy .ensures ∙ m .merge .ensures ∙ accepted-step (now (a .words)) (a .n) (a .k) (st .pre .0) some (a .i) _ _ _ _ _ (st .pre .1) (st .pre .2) r
-    (counted x .holders .ensures .0) (noded x .nodes .ensures) (x .marks .ensures .0)
+    y .copy .ensures ∙ m .merge .ensures ∙ accepted-step (now (a .words)) (a .n) (a .k) (a .t) (st .pre .0) some (st .pre .4) (a .i) _ _ _ _ _
+    (st .pre .1) (st .pre .2) r (counted x .holders .ensures .0) (noded x .nodes .ensures) (x .marks .ensures .0)
 
 pub take-in-spec : {M : Type 1} → statement M
 take-in-spec =

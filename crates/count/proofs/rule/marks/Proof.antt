@@ -12,15 +12,15 @@ use Rattle.count.proofs.rule.marks.Statement.{statement}
 use Rattle.count.proofs.rule.marks.Tie as tie
 
 abbrev Inv-loop : tie.InvT-loop
-Inv-loop n m k holders keep₀ v₀ keep v = (n ≤ v) × (v ≤ m) × (length keep ≡ tableWords) × Marked k holders n v keep
+Inv-loop n m t k holders keep₀ v₀ keep v = (n ≤ v) × (v ≤ m) × (length keep ≡ tableWords) × Marked t k holders n v keep
 
 abbrev μ-loop : tie.MeasureT-loop
-μ-loop n m k holders keep₀ v₀ keep v = m - v
+μ-loop n m t k holders keep₀ v₀ keep v = m - v
 
 loop-holds : tie.Need-loop-holds Inv-loop μ-loop
 loop-holds c =
     let st : tie.Start Inv-loop μ-loop = search needs in
-    (omega arith, st .pre .0, st .pre .2, marked-none _ _ _ _)
+    (omega arith, st .pre .0, st .pre .2, marked-none _ _ _ _ _)
 
 mul-is-shown : tie.Need-mul-is-shown Inv-loop μ-loop
 mul-is-shown c = search needs
@@ -47,7 +47,7 @@ loop-again c =
       omega arith,
       omega arith,
       simp length-set (l .loop .inv .2),
-      marked-more (st .args .k) (now (st .args .holders)) (st .args .n) (l .loop .v) _
+      marked-more (st .args .t) (st .args .k) (now (st .args .holders)) (st .args .n) (l .loop .v) _
           (l .loop .keep) (omega (arith, l .loop .inv .2, st .pre .1)) (c .is-shown .ensures) (l .loop .inv .3),
     )
 
