@@ -49,7 +49,7 @@ static void check(enum engine e) {
     if (e == PLAIN ? !plain_formed(words, length) : arb_withdraw(words, length, ABSENT) != ARB_REFUSAL_ABSENT) fail("the check");
 }
 
-// The report after the check, of which the library's report is made: at high thresholds it is a large part.
+// The report with the check before it, as the library's has it: at a high threshold the check is a large part.
 static void checked_report(enum engine e) {
     if (e == PLAIN) check(e);
     report(e);

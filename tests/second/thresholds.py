@@ -10,7 +10,7 @@ from random import Random
 from typing import Callable
 
 import shapes
-from rules import BY_DEFAULT, MOST_THRESHOLD, LEAST_THRESHOLD, WHOLE, Group, Tree, threshold
+from rules import BY_DEFAULT, LEAST_THRESHOLD, MOST_THRESHOLD, WHOLE, Group, Tree, threshold
 
 # Thresholds, in per cent (RULES 5.7)
 
