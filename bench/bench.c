@@ -1,32 +1,37 @@
-// Times the library's report and its well-formedness check against plain C and against a hash table, in one process, as ratios.
-// Ends with 1 if an answer differs.
+// Times the library's report, at several thresholds, and its well-formedness check against plain C and against a hash table, in one
+// process, as ratios. Ends with 1 if an answer differs.
 #include "arb.h"
 #include "draws.h"
 #include "hashed.h"
 #include "plain.h"
 
-enum { ABSENT = 65535, ENGINES = 3 };
+enum { ABSENT = 65535, ENGINES = 3, SIZES = 4, HALF = 50 };
 enum engine { LIBRARY, PLAIN, HASHED };
+
+static const int sizes[SIZES][2] = {{50, 324}, {512, 31}, {200, 500}, {512, 1024}};
+static const int thresholds[] = {HALF, 75, 100};
+
+// In eighths of a run's groups: half are common to all runs and half its own; or they are common to all, to most, to many runs, or its own.
+static const int alike[PARTS] = {4, 4, 4}, graded[PARTS] = {2, 3, 4};
 
 static u16 words[HEADER + RUNS * (2 * SAMPLES + 1)];
 static size_t length;
-static int n, k, failures;
+static int n, k, p = HALF, failures;
 static u16 agreed[ENGINES][NODES], support[ENGINES][NODES];
 
 static void fail(const char *what) {
-    printf("%s differs at n = %d, k = %d\n", what, n, k);
+    printf("%s differs at n = %d, k = %d, p = %d\n", what, n, k, p);
     failures++;
 }
 
-static void draw_study(enum shape shape) {
-    struct draw common;
+static void draw_study(enum shape shape, const int *eighths) {
+    struct draw parts[PARTS];
     u16 row[NODES];
     length = HEADER + k * slot_words(n);
     if (arb_open(n, words, length)) fail("opening");
-    draw_samples(&common, n);
-    join_until(&common, shape, n - n / 2);
+    draw_parts(parts, shape, n, eighths);
     for (int j = 0; j < k; j++) {
-        draw_row(common, shape, n, row);
+        draw_row(*part_of(parts, j), shape, n, row);
         *slot(words, n, j) = j + 1;
         if (arb_renumber(n, row, 2 * n, slot(words, n, j) + 1, 2 * n)) fail("renumbering");
     }
@@ -34,14 +39,20 @@ static void draw_study(enum shape shape) {
 }
 
 static void report(enum engine e) {
-    if (e == PLAIN) plain_report(words, n, k, agreed[e], support[e]);
-    else if (e == HASHED) hashed_report(words, n, k, agreed[e], support[e]);
-    else if (arb_report(words, length, agreed[e], 2 * n, support[e], 2 * n)) fail("the library's report");
+    if (e == PLAIN) plain_report(words, n, k, p, agreed[e], support[e]);
+    else if (e == HASHED) hashed_report(words, n, k, p, agreed[e], support[e]);
+    else if (arb_report(words, length, p, agreed[e], 2 * n, support[e], 2 * n)) fail("the library's report");
 }
 
 // The library's check alone: a withdrawal that is refused for its identifier has checked the whole study.
 static void check(enum engine e) {
     if (e == PLAIN ? !plain_formed(words, length) : arb_withdraw(words, length, ABSENT) != ARB_REFUSAL_ABSENT) fail("the check");
+}
+
+// The report with the check before it, as the library's has it: at a high threshold the check is a large part.
+static void checked_report(enum engine e) {
+    if (e == PLAIN) check(e);
+    report(e);
 }
 
 static double now(void) {
@@ -67,14 +78,15 @@ static void compare_answers(void) {
         if (memcmp(agreed[e], agreed[LIBRARY], 4 * n) || memcmp(support[e], support[LIBRARY], 4 * n)) fail(e == PLAIN ? "plain C" : "the hash table");
 }
 
+static const char *name_of(enum shape shape) { return shape == RANDOM ? "Random trees" : "Caterpillars"; }
+
 static void measure_shape(enum shape shape) {
-    static const int sizes[4][2] = {{50, 324}, {512, 31}, {200, 500}, {512, 1024}};
     double last_report = 0, last_check = 0, last_n = 0, last_k = 0;
-    printf("\n%s\n\n| n × k | groups shown | report | to plain C | to hash | grows | as k²·n | check | to plain C | to hash | grows | as k·n |\n|---|---|---|---|---|---|---|---|---|---|---|---|\n",
-        shape == RANDOM ? "Random trees" : "Caterpillars");
-    for (int i = 0; i < 4; i++) {
+    printf("\n%s\n\n| n × k | groups shown | report | to plain C | to hash | grows | as k²·n | check | to plain C | to hash | grows | as k·n |\n"
+        "|---|---|---|---|---|---|---|---|---|---|---|---|\n", name_of(shape));
+    for (int i = 0; i < SIZES; i++) {
         n = sizes[i][0], k = sizes[i][1];
-        draw_study(shape);
+        draw_study(shape, alike);
         double plain = seconds(report, PLAIN), hashed = seconds(report, HASHED), library = seconds(report, LIBRARY);
         double plain_check = seconds(check, PLAIN), library_check = seconds(check, LIBRARY);
         compare_answers();
@@ -88,8 +100,39 @@ static void measure_shape(enum shape shape) {
     }
 }
 
+// The seconds of the library's report at p, which is printed with its ratio to plain C.
+static double measure_report(void) {
+    double plain = seconds(checked_report, PLAIN), library = seconds(checked_report, LIBRARY);
+    report(HASHED);
+    compare_answers();
+    printf("| %d × %d | %d | %d of %d | %.2f ms | %.2f |", n, k, p, agreed[LIBRARY][0] - n, n - 1, library * 1e3, library / plain);
+    return library;
+}
+
+// What the stated cost says of a report at p, over one at 50: each run tried is held against all runs, and so is the agreed row.
+static double stated_cost(void) { return (tried_runs(k, p) + 1.0) / (tried_runs(k, HALF) + 1); }
+
+static void measure_thresholds(enum shape shape) {
+    printf("\n%s at thresholds\n\n| n × k | p | groups shown | report | to plain C | to p = 50 | as runs tried |\n"
+        "|---|---|---|---|---|---|---|\n", name_of(shape));
+    for (int i = 0; i < SIZES; i++) {
+        n = sizes[i][0], k = sizes[i][1];
+        draw_study(shape, graded);
+        double at_half = 0;
+        for (size_t j = 0; j < sizeof thresholds / sizeof *thresholds; j++) {
+            p = thresholds[j];
+            double library = measure_report();
+            if (p == HALF) at_half = library, printf(" | |\n");
+            else printf(" %.4f | %.4f |\n", library / at_half, stated_cost());
+        }
+    }
+    p = HALF;
+}
+
 int main(void) {
     measure_shape(RANDOM);
     measure_shape(CATERPILLAR);
+    measure_thresholds(RANDOM);
+    measure_thresholds(CATERPILLAR);
     return failures != 0;
 }

@@ -1,7 +1,10 @@
-// Studies drawn at random, with the same draws each time: half of each run's groups are common to all runs, half are its own.
+// Trees drawn at random, with the same draws each time: first what runs have in common, then what is a run's own.
 #pragma once
 #include "words.h"
 enum shape { RANDOM, CATERPILLAR };
+
+// What runs have in common comes in parts, one upon the other: what all runs hold, what four in five hold, what three in five hold.
+enum { PARTS = 3, TURNS = 5 };
 
 struct draw { int nodes, open; u16 parent[NODES], tops[SAMPLES]; };
 
@@ -31,6 +34,22 @@ static void join_until(struct draw *d, enum shape shape, int open) {
 static void draw_samples(struct draw *d, int n) {
     d->nodes = d->open = n;
     for (int s = 0; s < n; s++) d->tops[s] = s;
+}
+
+// Draws the parts, each up to so many eighths of a tree's groups.
+static void draw_parts(struct draw *parts, enum shape shape, int n, const int *eighths) {
+    struct draw d;
+    draw_samples(&d, n);
+    for (int i = 0; i < PARTS; i++) {
+        join_until(&d, shape, n - n * eighths[i] / 8);
+        parts[i] = d;
+    }
+}
+
+// The part from which run j goes on by itself.
+static const struct draw *part_of(const struct draw *parts, int j) {
+    int turn = j % TURNS;
+    return &parts[turn < PARTS ? turn : PARTS - 1];
 }
 
 static void draw_row(struct draw d, enum shape shape, int n, u16 *row) {

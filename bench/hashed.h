@@ -72,7 +72,7 @@ static void plant(struct group **shown, int count, int n, int k, u16 *agreed, u1
     }
 }
 
-static void hashed_report(const u16 *words, int n, int k, u16 *agreed, u16 *support) {
+static void hashed_report(const u16 *words, int n, int k, int p, u16 *agreed, u16 *support) {
     static struct group *shown[NODES];
     int count = 0;
     for (table_mask = 1; table_mask < 2 * n * k; table_mask *= 2);
@@ -81,7 +81,7 @@ static void hashed_report(const u16 *words, int n, int k, u16 *agreed, u16 *supp
     group_count = 0;
     for (int s = 0; s < n; s++) sample_hash[s] = mixed(s + 0x9e3779b97f4a7c15ul);
     for (int j = 0; j < k; j++) count_groups(run(words, n, j), n);
-    for (u32 g = 1; g <= group_count; g++) if (2 * groups[g].count > k) shown[count++] = &groups[g];
+    for (u32 g = 1; g <= group_count; g++) if (is_shown(groups[g].count, k, p)) shown[count++] = &groups[g];
     qsort(shown, count, sizeof *shown, by_order);
     plant(shown, count, n, k, agreed, support);
 }

@@ -146,7 +146,13 @@ static void merge(const u16 *first, const u16 *keep_first, const u16 *second, co
     for (int i = m - 1; i > n; i--) out[1 + i] = later(climb(&a, least[i], i), climb(&b, least[i], i));
 }
 
-static void plain_report(const u16 *words, int n, int k, u16 *agreed, u16 *support) {
+// How many runs are tried: a group that is shown is held by one of them.
+static int tried_runs(int k, int p) {
+    int runs = k - p * k / 100;
+    return runs > 0 ? runs : 1;
+}
+
+static void plain_report(const u16 *words, int n, int k, int p, u16 *agreed, u16 *support) {
     u16 count[NODES], marks[NODES], all[NODES], next[NODES];
     memset(agreed, 0, 2 * n * sizeof *agreed);
     memset(support, 0, 2 * n * sizeof *support);
@@ -154,10 +160,10 @@ static void plain_report(const u16 *words, int n, int k, u16 *agreed, u16 *suppo
     for (int s = 0; s < n; s++) agreed[1 + s] = n;
     agreed[1 + n] = NO_PARENT;
     for (int v = 0; v < NODES; v++) all[v] = 1;
-    for (int j = 0; j < (k + 1) / 2; j++) {
+    for (int j = 0; j < tried_runs(k, p); j++) {
         const u16 *row = run(words, n, j);
         holders(words, n, k, row, count);
-        for (int v = n; v < row[0]; v++) marks[v] = 2 * count[v] > k;
+        for (int v = n; v < row[0]; v++) marks[v] = is_shown(count[v], k, p);
         merge(agreed, all, row, marks, n, next);
         memcpy(agreed, next, 2 * n * sizeof *agreed);
     }

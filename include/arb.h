@@ -1,5 +1,5 @@
 /*
- * arb: runs of one sample set, and the tree that more than half of them hold. RULES 6, say, is section 6 of docs/RULES.md, where
+ * arb: runs of one sample set, and the tree of the groups that most of them hold. RULES 6, say, is section 6 of docs/RULES.md, where
  * all rules are numbered.
  *
  * SAMPLES, ROWS AND GROUPS (RULES 1 to 4). There are n samples, at least 2 and at most 512, with the numbers 0 to n-1. A run is one rooted
@@ -30,9 +30,10 @@
  *     from word 8 on          k slots, lowest identifier first, each of 2n+1 words: the identifier and its row, in standard numbering
  *     all others              0, to the end of the buffer
  *
- * THE REPORT (RULES 5). Of k runs in force, s hold a group. The agreed tree has the group if 2s > k, and only then: half of the runs is not
- * enough. The support row, of 2n words as well, goes with the agreed row: k first, then for each node how many runs hold its group, then 0
- * as filler.
+ * THE REPORT (RULES 5). A report is asked for at a threshold p, in per cent: 50 to 100, or 0, which stands for 50. Of k runs in force, s
+ * hold a group. The agreed tree has the group if 100s > pk, or if s = k, and only then: at 50 half of the runs is not enough, and at 100 all
+ * have to hold the group. The support row, of 2n words as well, goes with the agreed row: k first, then for each node how many runs hold its
+ * group, then 0 as filler.
  *
  * BUFFERS. Each is a pointer and its length in 16-bit words, not bytes. The pointer is aligned for uint16_t and valid for that many words; it
  * may be NULL only where the length is 0. A buffer that a call writes (its pointer is not const) must not overlap another buffer of that call.
@@ -57,6 +58,9 @@ extern "C" {
 #define ARB_LEAST_IDENTIFIER 1
 #define ARB_MOST_IDENTIFIER 65535
 #define ARB_ROOT_MARK 65535
+#define ARB_DEFAULT_THRESHOLD 0 /* stands for 50 */
+#define ARB_LEAST_THRESHOLD 50
+#define ARB_MOST_THRESHOLD 100
 
 /* Words of a row over n samples, of a study's header, of one run in it, and of a study with room for that many runs. */
 #define ARB_ROW_WORDS(n) (2 * (size_t)(n))
@@ -89,7 +93,8 @@ enum arb_refusal {
     ARB_REFUSAL_TAKEN = 11,     /* a run with this identifier is in force */
     ARB_REFUSAL_FULL = 12,      /* no room: as many runs are in force as the buffer holds, or 1024 */
     ARB_REFUSAL_ABSENT = 13,    /* no run with this identifier is in force */
-    ARB_REFUSAL_EMPTY = 14      /* no run is in force */
+    ARB_REFUSAL_EMPTY = 14,     /* no run is in force */
+    ARB_REFUSAL_THRESHOLD = 16  /* p is neither 0 nor 50 to 100; 15 is a number of the listing program alone */
 };
 
 /*
@@ -108,9 +113,9 @@ uint64_t arb_add(uint16_t *study, size_t study_length, uint16_t identifier, cons
    Refusals: 2, 4, 13. */
 uint64_t arb_withdraw(uint16_t *study, size_t study_length, uint16_t identifier);
 
-/* Reporting: writes the agreed row and the support row, 2n words each. The study is not written.
-   Refusals: 2, 3 for either output, 14. */
-uint64_t arb_report(const uint16_t *study, size_t study_length, uint16_t *agreed, size_t agreed_length, uint16_t *support, size_t support_length);
+/* Reporting: writes the agreed row at threshold p and its support row, 2n words each. The study is not written.
+   Refusals: 2, 3 for either output, 16, 14. */
+uint64_t arb_report(const uint16_t *study, size_t study_length, size_t p, uint16_t *agreed, size_t agreed_length, uint16_t *support, size_t support_length);
 
 /* Judging: is the row one tree over n samples? Writes nothing.
    Refusals: 1, 3, 5 to 10. */

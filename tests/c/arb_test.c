@@ -17,7 +17,7 @@ struct words {
 
 enum call { OPEN, ADD, WITHDRAW, REPORT, JUDGE, RENUMBER, COMPARE };
 
-// A call: x is n or the identifier; `lent` has its buffers in the order in which it takes them, `left` what they hold afterwards. A buffer
+// A call: x is n, the identifier or p; `lent` has its buffers in the order in which it takes them, `left` what they hold afterwards. A buffer
 // that `left` does not give has to stay as it was.
 struct example {
     const char *name;
@@ -31,13 +31,15 @@ struct example {
 #define REFUSED(number, place) ((number) + 256 * (place))
 #define COUNTED(both, first, second) (65536 * ((both) + 65536 * ((first) + (uint64_t)65536 * (second))))
 
-// The case: three runs of 5 samples, and what more than half of them hold.
+// The case: three runs of 5 samples, what two of them hold, and what all of them hold.
 #define RUN_1 8, 7, 7, 6, 5, 5, ROOT, 5, 6, 0
 #define RUN_2 8, 6, 6, 6, 7, 7, ROOT, 5, 5, 0
 #define RUN_2_OTHERWISE 8, 7, 7, 7, 6, 6, ROOT, 5, 5, 0
 #define RUN_3 9, 7, 7, 5, 8, 8, ROOT, 5, 6, 6
 #define AGREED 9, 7, 7, 6, 8, 8, ROOT, 5, 6, 5
 #define SUPPORT 3, 3, 3, 3, 3, 3, 3, 2, 2, 2
+#define AGREED_BY_ALL 6, 5, 5, 5, 5, 5, ROOT, 0, 0, 0
+#define SUPPORT_BY_ALL 3, 3, 3, 3, 3, 3, 3, 0, 0, 0
 
 // Rows of 2 and of 3 samples: the only tree of 2; with the group {0,1}, the same in another numbering, with {0,2}, with neither; and one
 // whose node 4 has one child.
@@ -65,6 +67,9 @@ struct example {
 #define CASE_3 STUDY_5(HEADER(5, 3), 1, RUN_1, 2, RUN_2, 3, RUN_3)
 #define CASE_WITHOUT_2 STUDY_5(HEADER(5, 2), 1, RUN_1, 3, RUN_3)
 
+// Four runs of 3 samples, of which the last three hold {0,1}.
+#define THREE_OF_FOUR {ARB_STUDY_WORDS(3, 4), {HEADER(3, 4), 1, WITH_02, 2, WITH_01, 3, WITH_01, 4, WITH_01}}
+
 static const struct example accepted[] = {
     {"the case is opened over old words", OPEN, 5, ACCEPTED, {STUDY_5(OLD_10, OLD_10, OLD_10, OLD_10, 9)}, {CASE_0}},
     {"room for one run is enough", OPEN, 2, ACCEPTED, {{13, {OLD_10, 9, 9, 9}}}, {{13, {HEADER(2, 0)}}}},
@@ -72,6 +77,12 @@ static const struct example accepted[] = {
     {"run 2 is added, in another numbering", ADD, 2, ACCEPTED, {CASE_1, ROW_5(RUN_2_OTHERWISE)}, {CASE_2}},
     {"run 3 is added", ADD, 3, ACCEPTED, {CASE_2, ROW_5(RUN_3)}, {CASE_3}},
     {"the case is reported", REPORT, 0, ACCEPTED, {CASE_3, ROW_5(OLD_10), ROW_5(OLD_10)}, {NONE, ROW_5(AGREED), ROW_5(SUPPORT)}},
+    {"the case is reported at 50", REPORT, 50, ACCEPTED, {CASE_3, ROW_5(OLD_10), ROW_5(OLD_10)}, {NONE, ROW_5(AGREED), ROW_5(SUPPORT)}},
+    {"the case is reported at 66", REPORT, 66, ACCEPTED, {CASE_3, ROW_5(OLD_10), ROW_5(OLD_10)}, {NONE, ROW_5(AGREED), ROW_5(SUPPORT)}},
+    {"the case is reported at 67", REPORT, 67, ACCEPTED, {CASE_3, ROW_5(OLD_10), ROW_5(OLD_10)},
+        {NONE, ROW_5(AGREED_BY_ALL), ROW_5(SUPPORT_BY_ALL)}},
+    {"the case is reported at 100", REPORT, 100, ACCEPTED, {CASE_3, ROW_5(OLD_10), ROW_5(OLD_10)},
+        {NONE, ROW_5(AGREED_BY_ALL), ROW_5(SUPPORT_BY_ALL)}},
     {"run 2 is withdrawn", WITHDRAW, 2, ACCEPTED, {CASE_3}, {CASE_WITHOUT_2}},
     {"run 2 is added in its old room", ADD, 2, ACCEPTED, {CASE_WITHOUT_2, ROW_5(RUN_2)}, {CASE_3}},
     {"the last run is withdrawn", WITHDRAW, 1, ACCEPTED, {CASE_1}, {CASE_0}},
@@ -84,6 +95,12 @@ static const struct example accepted[] = {
     {"one run is reported itself", REPORT, 0, ACCEPTED, {CASE_1, ROW_5(OLD_10), ROW_5(OLD_10)}, {NONE, ROW_5(RUN_1), ROW_5(1, 1, 1, 1, 1, 1, 1, 1, 1, 0)}},
     {"two halves are reported as neither", REPORT, 0, ACCEPTED, {STUDY_3(HEADER(3, 2), 1, WITH_01, 2, WITH_02), ROW_3(OLD_6), ROW_3(OLD_6)},
         {NONE, ROW_3(BARE_3), ROW_3(2, 2, 2, 2, 2, 0)}},
+    {"one run is reported itself at 100", REPORT, 100, ACCEPTED, {CASE_1, ROW_5(OLD_10), ROW_5(OLD_10)},
+        {NONE, ROW_5(RUN_1), ROW_5(1, 1, 1, 1, 1, 1, 1, 1, 1, 0)}},
+    {"three of four are more than 74", REPORT, 74, ACCEPTED, {THREE_OF_FOUR, ROW_3(OLD_6), ROW_3(OLD_6)},
+        {NONE, ROW_3(WITH_01), ROW_3(4, 4, 4, 4, 4, 3)}},
+    {"three of four are no more than 75", REPORT, 75, ACCEPTED, {THREE_OF_FOUR, ROW_3(OLD_6), ROW_3(OLD_6)},
+        {NONE, ROW_3(BARE_3), ROW_3(4, 4, 4, 4, 4, 0)}},
     {"the only tree of 2 is valid", JUDGE, 2, ACCEPTED, {{4, {ONLY_OF_2}}}},
     {"a tree of 3 is valid", JUDGE, 3, ACCEPTED, {ROW_3(WITH_01)}},
     {"it is valid in another numbering", JUDGE, 3, ACCEPTED, {ROW_3(WITH_01_OTHERWISE)}},
@@ -125,6 +142,10 @@ static const struct example refused[] = {
     {"report: a short agreed row, and k is 0", REPORT, 0, REFUSED(3, 0), {STUDY_3(HEADER(3, 0)), {5, {OLD_6}}, ROW_3(OLD_6)}},
     {"report: a long support row", REPORT, 0, REFUSED(3, 0), {STUDY_3(HEADER(3, 1), 6, WITH_01), ROW_3(OLD_6), {7, {OLD_6, 9}}}},
     {"report: k is 0", REPORT, 0, REFUSED(14, 0), {STUDY_3(HEADER(3, 0)), ROW_3(OLD_6), ROW_3(OLD_6)}},
+    {"report: another version, and p is 49", REPORT, 49, REFUSED(2, 0), {STUDY_3(65, 82, 66, 2, 3), ROW_3(OLD_6), ROW_3(OLD_6)}},
+    {"report: a short support row, and p is 49", REPORT, 49, REFUSED(3, 0), {STUDY_3(HEADER(3, 0)), ROW_3(OLD_6), {5, {OLD_6}}}},
+    {"report: p is 49, and k is 0", REPORT, 49, REFUSED(16, 0), {STUDY_3(HEADER(3, 0)), ROW_3(OLD_6), ROW_3(OLD_6)}},
+    {"report: k is 0, at 100", REPORT, 100, REFUSED(14, 0), {STUDY_3(HEADER(3, 0)), ROW_3(OLD_6), ROW_3(OLD_6)}},
 
     {"judge: n is 1, and no row", JUDGE, 1, REFUSED(1, 0), {NONE}},
     {"judge: n is 513", JUDGE, 513, REFUSED(1, 0), {ROW_3(WITH_01)}},
@@ -155,6 +176,22 @@ static const struct bad_row {
     {8, 5, ROW_3(4, 3, 3, 3, ROOT, 7)},
     {9, 4, ROW_3(5, 3, 3, 3, ROOT, 4)},
     {10, 4, ROW_3(ONE_CHILD)},
+};
+
+// Thresholds that are refused (RULES 5.7); of some the low 8, 16 or 32 bits would be accepted.
+static const struct bad_threshold {
+    const char *name;
+    size_t p;
+} bad_thresholds[] = {
+    {"report: p is 1", 1},
+    {"report: p is 49", 49},
+    {"report: p is 101", 101},
+    {"report: p is 256 + 50", 256 + 50},
+    {"report: p is 2^16 - 1", 65535},
+    {"report: p is 2^16", 65536},
+    {"report: p is 2^16 + 50", 65536 + 50},
+    {"report: p is 2^32 + 50", 4294967296 + 50},
+    {"report: p is the largest size_t", (size_t)-1},
 };
 
 static int passed, failed;
@@ -207,7 +244,7 @@ static uint64_t answer_of(const struct example *e, struct lent *lent) {
     case OPEN: return arb_open(e->x, a, la);
     case ADD: return arb_add(a, la, (uint16_t)e->x, b, lb);
     case WITHDRAW: return arb_withdraw(a, la, (uint16_t)e->x);
-    case REPORT: return arb_report(a, la, b, lb, c, lc);
+    case REPORT: return arb_report(a, la, e->x, b, lb, c, lc);
     case JUDGE: return arb_judge(e->x, a, la);
     case RENUMBER: return arb_renumber(e->x, a, la, b, lb);
     case COMPARE: return arb_compare(e->x, a, la, b, lb);
@@ -239,11 +276,16 @@ static void test_bad_row(const struct bad_row *bad) {
     for (size_t i = 0; i < COUNT(examples); i++) test_example(&examples[i]);
 }
 
+static void test_bad_threshold(const struct bad_threshold *bad) {
+    const struct example example = {bad->name, REPORT, bad->p, REFUSED(16, 0), {CASE_3, ROW_5(OLD_10), ROW_5(OLD_10)}};
+    test_example(&example);
+}
+
 static void test_without_buffers(void) {
     check("open: NULL and no words", same_answer(3, arb_open(5, NULL, 0)));
     check("add: NULL and no words", same_answer(2, arb_add(NULL, 0, 1, NULL, 0)));
     check("withdraw: NULL and no words", same_answer(2, arb_withdraw(NULL, 0, 1)));
-    check("report: NULL and no words", same_answer(2, arb_report(NULL, 0, NULL, 0, NULL, 0)));
+    check("report: NULL and no words", same_answer(2, arb_report(NULL, 0, 0, NULL, 0, NULL, 0)));
     check("judge: NULL and no words", same_answer(3, arb_judge(5, NULL, 0)));
     check("renumber: NULL and no words", same_answer(3, arb_renumber(5, NULL, 0, NULL, 0)));
     check("compare: NULL and no words", same_answer(3, arb_compare(5, NULL, 0, NULL, 0)));
@@ -263,12 +305,12 @@ static void write_wide_rows(void) {
     wide_rows[1][1 + WIDE + 1] = WIDE;
 }
 
-// Whether the report of a study of 512 samples has this agreed row and supports of k, where `pair` runs hold {0,1}.
-static int same_report(const uint16_t *study, size_t length, const uint16_t *row, uint16_t k, uint16_t pair) {
+// Whether the report at p of a study of 512 samples has this agreed row and supports of k, where `pair` runs hold {0,1}.
+static int same_report(const uint16_t *study, size_t length, size_t p, const uint16_t *row, uint16_t k, uint16_t pair) {
     static uint16_t agreed[WIDE_ROW], support[WIDE_ROW], expected[WIDE_ROW];
     for (int i = 0; i < WIDE_ROW; i++) expected[i] = i <= 1 + WIDE ? k : 0;
     if (row[0] > WIDE + 1) expected[1 + WIDE + 1] = pair;
-    return same_answer(ACCEPTED, arb_report(study, length, agreed, WIDE_ROW, support, WIDE_ROW)) && memcmp(agreed, row, sizeof agreed) == 0
+    return same_answer(ACCEPTED, arb_report(study, length, p, agreed, WIDE_ROW, support, WIDE_ROW)) && memcmp(agreed, row, sizeof agreed) == 0
         && memcmp(support, expected, sizeof support) == 0;
 }
 
@@ -277,7 +319,7 @@ static void test_most_samples(void) {
     static uint16_t study[ARB_STUDY_WORDS(WIDE, 1)];
     check("512 samples are taken", same_answer(ACCEPTED, arb_open(WIDE, study, COUNT(study))));
     check("their run is added", same_answer(ACCEPTED, arb_add(study, COUNT(study), ARB_MOST_IDENTIFIER, wide_rows[0], WIDE_ROW)));
-    check("their run is reported itself, with support 1", same_report(study, COUNT(study), wide_rows[0], 1, 0));
+    check("their run is reported itself, with support 1", same_report(study, COUNT(study), 0, wide_rows[0], 1, 0));
 }
 
 // n that 16 or 32 bits do not hold are refused with 1 (RULES 1.1), though what those bits leave of them fits the row.
@@ -352,16 +394,18 @@ static void test_long_study(size_t length, uint16_t room) {
     check("the words after a long study are as they were", is_right);
 }
 
-// 34 of 68 runs are half of them and too few for {0,1}; 35 are enough (RULES 5.1 and 5.2).
+// 34 of 68 runs are half of them and too few for {0,1}; 35 are enough, at 51 as well, and too few at 52 (RULES 5.1 and 5.2).
 static void test_long_report(void) {
     enum { RUNS = 68 };
     uint16_t identifiers[RUNS];
     for (int i = 0; i < RUNS; i++) identifiers[i] = i + 1;
-    check("half of a long study's runs", same_report(long_study, LONG, wide_rows[0], RUNS, 0));
+    check("half of a long study's runs", same_report(long_study, LONG, 0, wide_rows[0], RUNS, 0));
     check("its last run is withdrawn", same_answer(ACCEPTED, arb_withdraw(long_study, LONG, RUNS)) && holds_runs(long_study, LONG, identifiers, RUNS - 1));
     identifiers[RUNS - 1] = RUNS + 1;
     check("another takes its room", same_answer(ACCEPTED, add_wide(LONG, RUNS + 1)) && holds_runs(long_study, LONG, identifiers, RUNS));
-    check("one more than half", same_report(long_study, LONG, wide_rows[1], RUNS, 35));
+    check("one more than half", same_report(long_study, LONG, 0, wide_rows[1], RUNS, 35));
+    check("one more than half, at 51", same_report(long_study, LONG, 51, wide_rows[1], RUNS, 35));
+    check("one more than half, at 52", same_report(long_study, LONG, 52, wide_rows[0], RUNS, 0));
 }
 
 // The macros, on numbers packed by hand: 10 at place 4, and 7, 1 and 1 counted.
@@ -369,6 +413,8 @@ static void test_macros(void) {
     uint64_t answer = 0x40A, counted = 0x0001000100070000;
     check("an answer of 0 is accepted", ARB_ACCEPTED((uint64_t)0) && ARB_NUMBER((uint64_t)0) == 0);
     check("a refusal's number and place", !ARB_ACCEPTED(answer) && ARB_NUMBER(answer) == ARB_REFUSAL_CHILDREN && ARB_PLACE(answer) == 4);
+    check("a refused threshold's number", ARB_REFUSAL_THRESHOLD == 16);
+    check("the bounds of thresholds", ARB_DEFAULT_THRESHOLD == 0 && ARB_LEAST_THRESHOLD == 50 && ARB_MOST_THRESHOLD == 100);
     check("three counts", ARB_ACCEPTED(counted) && ARB_IN_BOTH(counted) == 7 && ARB_ONLY_FIRST(counted) == 1 && ARB_ONLY_SECOND(counted) == 1);
     check("words of rows and studies", ARB_ROW_WORDS(5) == 10 && ARB_SLOT_WORDS(5) == 11 && ARB_STUDY_WORDS(5, 3) == 41 && ARB_STUDY_WORDS(2, 1) == 13);
 }
@@ -377,6 +423,7 @@ int main(void) {
     for (size_t i = 0; i < COUNT(accepted); i++) test_example(&accepted[i]);
     for (size_t i = 0; i < COUNT(refused); i++) test_example(&refused[i]);
     for (size_t i = 0; i < COUNT(bad_rows); i++) test_bad_row(&bad_rows[i]);
+    for (size_t i = 0; i < COUNT(bad_thresholds); i++) test_bad_threshold(&bad_thresholds[i]);
     test_without_buffers();
     write_wide_rows();
     test_most_samples();

@@ -32,7 +32,7 @@ NUMBERS = {
     OPEN: {0, 1, 3},
     ADD: {0, 2, 3, 4, 11, 12} | OF_A_ROW,
     WITHDRAW: {0, 2, 4, 13},
-    REPORT: {0, 2, 3, 14},
+    REPORT: {0, 2, 3, 14, 16},
     JUDGE: {0, 1, 3} | OF_A_ROW,
     RENUMBER: {0, 1, 3} | OF_A_ROW,
     COMPARE: {0, 1, 3} | OF_A_ROW,
@@ -42,7 +42,7 @@ LONGEST = 32768  # words in a buffer
 
 
 class Call(NamedTuple):
-    """One request: x is n or an identifier, y is 0 where nothing needs it."""
+    """One request: x is n, an identifier or a threshold; y is 0 where nothing needs it."""
 
     op: int
     x: int
@@ -106,7 +106,7 @@ ANSWERS: dict[int, Callable[[int, list[Words]], Answer]] = {
     OPEN: lambda x, buffers: rules.open_study(x, buffers[0]),
     ADD: lambda x, buffers: rules.add(buffers[0], x, buffers[1]),
     WITHDRAW: lambda x, buffers: rules.withdraw(buffers[0], x),
-    REPORT: lambda x, buffers: rules.report(*buffers),
+    REPORT: lambda x, buffers: rules.report(buffers[0], x, *buffers[1:]),
     JUDGE: lambda x, buffers: rules.judge(x, buffers[0]),
     RENUMBER: lambda x, buffers: rules.renumber(x, *buffers),
     COMPARE: lambda x, buffers: rules.compare(x, *buffers),

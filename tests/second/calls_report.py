@@ -6,26 +6,22 @@ from itertools import product
 from random import Random
 from typing import Iterator
 
+import calls_thresholds
 import rows
 import shapes
 import studies
+import thresholds
 from calls import REPORT, Call
 from calls_studies import changed_bases, damaged_studies, too_many
-from rules import MOST_RUNS, Tree, Words
-from sequences import in_sequences, random_in_sequences, report
-
-
-def onto_old(rng: Random, words: Words) -> Call:
-    """The report of a study into buffers that held other words; six each if n is out of range."""
-    n = words[4] if len(words) > 4 and words[4] in range(2, 513) else 3
-    return report(words, rows.old_words(rng, 2 * n), rows.old_words(rng, 2 * n))
+from rules import BY_DEFAULT, MOST_RUNS, Tree, Words
+from sequences import in_sequences, random_in_sequences, report, report_onto_old
 
 
 def report_trees(rng: Random, n: int, trees: list[Tree]) -> Call:
-    """The report of a study that holds these trees under any identifiers."""
+    """The default report of a study that holds these trees under any identifiers."""
     k = len(trees)
     length = studies.some_length(rng, n, k) if n < 40 else studies.length_for(n, k)
-    return onto_old(rng, studies.study_of(rng, n, trees, length))
+    return report_onto_old(rng, studies.study_of(rng, n, trees, length), BY_DEFAULT)
 
 
 def small_runs(rng: Random) -> Iterator[Call]:
@@ -94,9 +90,9 @@ def without_runs(rng: Random) -> Iterator[Call]:
     """No run in force: 14, and 3 before it."""
     for n in [*range(2, 42), 512]:
         words = studies.some_study(rng, n, 0)
-        yield onto_old(rng, words)
+        yield report_onto_old(rng, words, BY_DEFAULT)
         outputs = [rows.old_words(rng, 2 * n), rows.old_words(rng, 2 * n)]
-        yield report(words, *rows.one_wrong_length(rng, outputs))
+        yield report(words, BY_DEFAULT, *rows.one_wrong_length(rng, outputs))
 
 
 def wrong_lengths(rng: Random) -> Iterator[Call]:
@@ -106,14 +102,14 @@ def wrong_lengths(rng: Random) -> Iterator[Call]:
         right = rows.old_words(rng, 2 * n)
         for length in (0, 1, n, 2 * n - 1, 2 * n + 1, 4 * n):
             wrong = rows.old_words(rng, length)
-            yield report(words, right, wrong)
-            yield report(words, wrong, right)
-            yield report(words, wrong, wrong)
-        yield report(words, right[1:], right + [0])
+            yield report(words, BY_DEFAULT, right, wrong)
+            yield report(words, BY_DEFAULT, wrong, right)
+            yield report(words, BY_DEFAULT, wrong, wrong)
+        yield report(words, BY_DEFAULT, right[1:], right + [0])
 
 
 def stored(rng: Random) -> Iterator[Call]:
-    """The calls that are stored."""
+    """The calls that are stored: those at the default threshold, then those at others."""
     yield from in_sequences(REPORT)
     yield from small_runs(rng)
     yield from runs_of_every_kind(rng)
@@ -125,20 +121,35 @@ def stored(rng: Random) -> Iterator[Call]:
     yield from without_runs(rng)
     yield from wrong_lengths(rng)
     for words in [*changed_bases(rng), *damaged_studies(rng), too_many(rng)]:
-        yield onto_old(rng, words)
+        yield report_onto_old(rng, words, BY_DEFAULT)
+    yield from calls_thresholds.stored()
+
+
+def some_number_of_runs(rng: Random, n: int) -> int:
+    """How many runs a random study has: mostly few, sometimes about 100 if the samples are few."""
+    if n < 8 and rng.random() < 0.1:
+        return rng.randint(95, 105)
+    return rng.randint(1, 4 if n > 40 else 12)
+
+
+def random_study(rng: Random, n: int, p: int) -> Words:
+    """A study with runs of any kind, or at the edge of a threshold."""
+    k = some_number_of_runs(rng, n)
+    at_edge = rng.random() < 0.5
+    trees = thresholds.any_edge(rng, n, k, p) if at_edge else shapes.any_runs(rng, n, k)
+    return studies.study_in_order(rng, n, trees, studies.some_length(rng, n, k))
 
 
 def random_report(rng: Random) -> Call:
-    """One call, with any runs, outputs of any words, and sometimes something wrong."""
-    n = rows.some_size(rng)
-    k = rng.randint(1, 4 if n > 40 else 12)
-    call = report_trees(rng, n, shapes.any_runs(rng, n, k))
-    words, *outputs = call.buffers
+    """One call at any threshold, outputs of any words, and sometimes something wrong."""
+    n, p = rows.some_size(rng), thresholds.any_threshold(rng)
+    words = random_study(rng, n, p)
+    outputs = [rows.old_words(rng, 2 * n) for _ in range(2)]
     if rng.random() < 0.1:
         words = studies.damaged(rng, words)
     if rng.random() < 0.04:
         outputs = rows.one_wrong_length(rng, outputs)
-    return report(words, *outputs)
+    return report(words, p, *outputs)
 
 
 def random(rng: Random) -> Iterator[Call]:

@@ -65,7 +65,7 @@ def refused_line(refusal: tuple[int, int], position: int = 0) -> bytes:
 
 def tree_lines(study: Study) -> bytes:
     """The listing of the agreed tree."""
-    agreed, support = rules.reported_rows(study)
+    agreed, support = rules.reported_rows(study, rules.BY_DEFAULT)
     groups = rules.nodes_of(study.n, rules.standard_order(rules.groups_of(study.n, agreed)))
     # RULES 9.4.
     lines = [["ARB", rules.VERSION, study.n, len(study.runs)]]

@@ -22,6 +22,10 @@ MOST_RUNS = 1024  # RULES 1.4
 MARK = [65, 82, 66]  # RULES 6.1
 VERSION = 1  # RULES 6.1
 HEADER = 8  # RULES 6.3: words before the first slot
+WHOLE = 100  # RULES 5.1: all runs, in per cent
+BY_DEFAULT = 0  # RULES 5.7: what stands for the default threshold
+DEFAULT_THRESHOLD = 50  # RULES 5.7
+LEAST_THRESHOLD, MOST_THRESHOLD = 50, 100  # RULES 5.7
 
 
 class Answer(NamedTuple):
@@ -372,15 +376,28 @@ def withdraw(words: Words, identifier: int) -> Answer:
     return accepted([write_study(len(words), Study(n, after))])
 
 
-def report(words: Words, agreed: Words, support: Words) -> Answer:
-    """The agreed row and the support row, written to two buffers (RULES 5.4 and 5.5)."""
+def report(words: Words, p: int, agreed: Words, support: Words) -> Answer:
+    """The agreed row and the support row at threshold p, in two buffers (RULES 5.4 and 5.5)."""
     study = read_study(words)
     if study is None:  # 2: not well formed
         return refused((2, 0), [words, agreed, support])
-    refusal = length_refusal(study.n, agreed, support) or empty_refusal(study)
+    # RULES 7.2: 16 comes before 14.
+    refusal = (
+        length_refusal(study.n, agreed, support) or threshold_refusal(p) or empty_refusal(study)
+    )
     if refusal:
         return refused(refusal, [words, agreed, support])
-    return accepted([words, *reported_rows(study)])
+    return accepted([words, *reported_rows(study, p)])
+
+
+def threshold(p: int) -> int:
+    """The threshold that p names, in per cent (RULES 5.7)."""
+    return DEFAULT_THRESHOLD if p == BY_DEFAULT else p
+
+
+def threshold_refusal(p: int) -> Refusal:
+    """16: p names no threshold that there may be (RULES 5.7)."""
+    return refuse_if(not LEAST_THRESHOLD <= threshold(p) <= MOST_THRESHOLD, 16)
 
 
 def empty_refusal(study: Study) -> Refusal:
@@ -388,12 +405,12 @@ def empty_refusal(study: Study) -> Refusal:
     return refuse_if(len(study.runs) == 0, 14)
 
 
-def reported_rows(study: Study) -> list[Words]:
+def reported_rows(study: Study, p: int) -> list[Words]:
     """The agreed row and the support row of a study with runs in force."""
     n, k = study.n, len(study.runs)
     holders = holders_of(study.runs)
-    shown = majority(holders, k)
-    return [row_of(n, shown), support_row(n, shown, holders, k)]
+    tree = shown(holders, k, p)
+    return [row_of(n, tree), support_row(n, tree, holders, k)]
 
 
 def holders_of(runs: dict[int, Tree]) -> Counter[Group]:
@@ -401,10 +418,15 @@ def holders_of(runs: dict[int, Tree]) -> Counter[Group]:
     return Counter(group for tree in runs.values() for group in tree)
 
 
-def majority(holders: Counter[Group], k: int) -> Tree:
+def is_shown(held: int, k: int, p: int) -> bool:
+    """Whether a group that this many of k runs hold is shown at threshold p (RULES 5.1)."""
+    # RULES 5.2: the threshold itself is not enough, unless all runs hold the group.
+    return WHOLE * held > threshold(p) * k or held == k
+
+
+def shown(holders: Counter[Group], k: int, p: int) -> Tree:
     """The groups of the agreed tree."""
-    # RULES 5.1 and 5.2: half is not enough.
-    return frozenset(group for group, held in holders.items() if 2 * held > k)
+    return frozenset(group for group, held in holders.items() if is_shown(held, k, p))
 
 
 def support_row(n: int, tree: Tree, holders: Counter[Group], k: int) -> Words:

@@ -14,8 +14,9 @@ from typing import Callable, Iterator
 import rows
 import shapes
 import studies
+import thresholds
 from calls import ADD, LONGEST, OPEN, REPORT, WITHDRAW, Call, answer
-from rules import MOST_RUNS, Words
+from rules import BY_DEFAULT, MOST_RUNS, Words
 from specimens import ONLY_TREE_OF_2, RUNS_OF_5, WITH_01, WITH_02
 
 
@@ -34,12 +35,20 @@ def withdraw(words: Words, identifier: int) -> Call:
     return Call(WITHDRAW, identifier, [words])
 
 
-def report(words: Words, agreed: Words, support: Words) -> Call:
-    """The call that reports the agreed tree."""
-    return Call(REPORT, 0, [words, agreed, support])
+def report(words: Words, p: int, agreed: Words, support: Words) -> Call:
+    """The call that reports the agreed tree at threshold p."""
+    return Call(REPORT, p, [words, agreed, support])
+
+
+def report_onto_old(rng: Random, words: Words, p: int) -> Call:
+    """The report of a study into buffers that held other words; six each if n is out of range."""
+    n = words[4] if len(words) > 4 and words[4] in range(2, 513) else 3
+    return report(words, p, rows.old_words(rng, 2 * n), rows.old_words(rng, 2 * n))
 
 
 # Sequences by chance
+
+Next = Callable[[Random, Words, list[int]], Call]  # by the study and a pool of identifiers
 
 
 def next_open(rng: Random, words: Words, pool: list[int]) -> Call:
@@ -64,16 +73,21 @@ def next_withdraw(rng: Random, words: Words, pool: list[int]) -> Call:
 
 
 def next_report(rng: Random, words: Words, pool: list[int]) -> Call:
-    """A report into buffers that held other words."""
+    """A report at the default threshold into buffers that held other words."""
     outputs = [rows.old_words(rng, 2 * words[4]) for _ in range(2)]
     if rng.random() < 0.05:
         outputs = rows.one_wrong_length(rng, outputs)
-    return report(words, *outputs)
+    return report(words, BY_DEFAULT, *outputs)
 
 
-NEXT: list[Callable[[Random, Words, list[int]], Call]] = (
-    [next_add] * 14 + [next_withdraw] * 5 + [next_report] * 3 + [next_open]
-)
+def next_report_at_any(rng: Random, words: Words, pool: list[int]) -> Call:
+    """The same at any threshold."""
+    return next_report(rng, words, pool)._replace(x=thresholds.any_threshold(rng))
+
+
+def nexts(reporting: Next) -> list[Next]:
+    """What comes next in a sequence, each as many times as it is likely."""
+    return [next_add] * 14 + [next_withdraw] * 5 + [reporting] * 3 + [next_open]
 
 
 def on_damaged_copy(rng: Random, call: Call) -> Call:
@@ -82,7 +96,9 @@ def on_damaged_copy(rng: Random, call: Call) -> Call:
     return call._replace(buffers=[studies.damaged(rng, study), *others])
 
 
-def sequence(rng: Random, n: int, slots: int, steps: int) -> Iterator[Call]:
+def sequence(
+    rng: Random, n: int, slots: int, steps: int, reporting: Next = next_report
+) -> Iterator[Call]:
     """A study opened with room for this many runs, and this many calls on it."""
     pool = studies.some_identifiers(rng, slots + 3)
     length = studies.length_for(n, slots) + rng.choice([0, 0, 1, 2 * n])
@@ -90,7 +106,7 @@ def sequence(rng: Random, n: int, slots: int, steps: int) -> Iterator[Call]:
     yield opening
     words = answer(opening).buffers[0]
     for _ in range(steps):
-        call = rng.choice(NEXT)(rng, words, pool)
+        call = rng.choice(nexts(reporting))(rng, words, pool)
         if call.op != OPEN and rng.random() < 0.1:
             yield on_damaged_copy(rng, call)
         else:
@@ -125,8 +141,8 @@ def withdraws(identifier: int) -> Callable[[Words], Call]:
 
 
 def reports() -> Callable[[Words], Call]:
-    """The step that reports."""
-    return lambda words: report(words, [7] * (2 * words[4]), [8] * (2 * words[4]))
+    """The step that reports at the default threshold."""
+    return lambda words: report(words, BY_DEFAULT, [7] * (2 * words[4]), [8] * (2 * words[4]))
 
 
 def specimens() -> Iterator[Call]:
@@ -212,7 +228,8 @@ def random_sequence(rng: Random) -> Iterator[Call]:
         return crowded(rng, rng.randrange(12))
     n = rows.some_size(rng) if rng.random() < 0.3 else rng.randint(2, 8)
     most = 3 if n > 40 else 12
-    return sequence(rng, n, rng.randint(1, most), rng.randint(5, 60))
+    slots, steps = rng.randint(1, most), rng.randint(5, 60)
+    return sequence(rng, n, slots, steps, next_report_at_any)
 
 
 def random_in_sequences(rng: Random, op: int) -> Iterator[Call]:

@@ -37,6 +37,12 @@ def study_of(rng: Random, n: int, trees: list[Tree], length: int) -> Words:
     return write_study(length, Study(n, runs))
 
 
+def study_in_order(rng: Random, n: int, trees: list[Tree], length: int) -> Words:
+    """A study of this many words in which these trees stand in this order."""
+    runs = dict(zip(sorted(some_identifiers(rng, len(trees))), trees))
+    return write_study(length, Study(n, runs))
+
+
 def some_length(rng: Random, n: int, k: int) -> int:
     """A length with room for k runs and up to two more."""
     over = rng.choice([0, 0, 1, rng.randrange(slot_width(n)), 2 * n])

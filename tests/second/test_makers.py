@@ -7,12 +7,14 @@ from random import Random
 
 import calls
 import calls_judge
+import calls_thresholds
 import material
 import rows
 import rules
 import sequences
 import shapes
 import studies
+import thresholds
 from rules import ROOT
 
 EVERY_OP = [calls.OPEN, calls.ADD, calls.WITHDRAW, calls.REPORT]
@@ -87,6 +89,84 @@ def test_runs_near_half() -> None:
         shown += sum(2 * count > 9 for count in held)
         common += len(shapes.proper_groups(tree))
     assert 0.3 * common < shown < 0.8 * common
+
+
+# Thresholds
+
+
+def proper_runs(call: calls.Call) -> list[list[int]]:
+    """Of each proper group of a reported study, the runs that hold it, counted from 0."""
+    study = rules.read_study(call.buffers[0])
+    trees = [study.runs[identifier] for identifier in sorted(study.runs)]
+    groups = [group for group in rules.holders_of(study.runs) if 1 < len(group) < study.n]
+    return [[i for i, tree in enumerate(trees) if group in tree] for group in groups]
+
+
+def test_thresholds() -> None:
+    """The makers of thresholds make those that are refused, accepted, and some of both."""
+    rng = Random(13)
+    assert all(rules.threshold_refusal(thresholds.refused_threshold(rng)) for _ in range(300))
+    assert not any(rules.threshold_refusal(thresholds.accepted_threshold(rng)) for _ in range(300))
+    refused = sum(bool(rules.threshold_refusal(thresholds.any_threshold(rng))) for _ in range(900))
+    assert 30 < refused < 150
+    assert thresholds.around(50) == [0, 50, 51] and thresholds.around(100) == [0, 99, 100]
+
+
+def test_fewest() -> None:
+    """The fewest runs that a group needs to be shown, for every threshold."""
+    for p in [0, *range(50, 101)]:
+        for k in range(1, 40):
+            enough = thresholds.fewest(k, p)
+            assert rules.is_shown(enough, k, p) and not rules.is_shown(enough - 1, k, p)
+
+
+def test_runs_at_edges() -> None:
+    """The runs at an edge hold groups exactly so often; the last ones, where late ones do."""
+    rng = Random(14)
+    for p, k in ((50, 4), (66, 3), (75, 8), (80, 10), (99, 100), (100, 5)):
+        edge, enough = thresholds.at_edge(k, p), thresholds.fewest(k, p)
+        held = proper_holders(6, thresholds.runs_at_edge(rng, 6, k, p))
+        assert {edge, edge - 1, min(k, edge + 1)} - {0} <= set(held)
+        assert {k, k - 1} <= set(proper_holders(6, thresholds.runs_nearly_all(rng, 6, k)))
+        for make in (thresholds.runs_late, thresholds.runs_changed):
+            trees = make(rng, 6, k, p)
+            late = frozenset.intersection(*trees[k - enough :]).difference(*trees[: k - enough])
+            assert any(1 < len(group) < 6 for group in late)
+
+
+def test_stored_exact_shares() -> None:
+    """Stored reports have groups held by exactly the threshold's share, and beside it."""
+    found = {(p, over): set() for p in (50, 60, 75, 80, 99, 100) for over in (-1, 0, 1)}
+    for call in calls_thresholds.exact_shares(Random(1)):
+        k = call.buffers[0][5]
+        for runs in proper_runs(call):
+            if call.x * k % 100 == 0 and (call.x, len(runs) - call.x * k // 100) in found:
+                found[call.x, len(runs) - call.x * k // 100].add(k)
+    few = {p_and_over for p_and_over, ks in found.items() if len(ks) < 2}
+    assert few == {(100, 1)}, few
+
+
+def test_stored_late_runs() -> None:
+    """Stored reports show groups that no run holds but the last ones, as few as there may be."""
+    latest = {(p, k): 0 for p in calls_thresholds.LATE for k in calls_thresholds.RUNS_OF_LATE}
+    for call in calls_thresholds.late_runs(Random(1)):
+        k = call.buffers[0][5]
+        shown = [runs[0] for runs in proper_runs(call) if rules.is_shown(len(runs), k, call.x)]
+        latest[call.x, k] = max([latest.get((call.x, k), 0), *shown])
+    assert all(first == k - thresholds.fewest(k, p) for (p, k), first in latest.items()), latest
+
+
+def test_stored_refusals_of_thresholds() -> None:
+    """Stored reports at refused thresholds get 2, 3 and 16, the last with runs and without."""
+    came = {number: set() for number in (2, 3, 16)}
+    without_runs = set()
+    for call in calls_thresholds.stored():
+        number = calls.answer(call).number
+        if rules.threshold_refusal(call.x):
+            came[number].add(call.x)
+        if number == 16 and call.buffers[0][5] == 0:
+            without_runs.add(call.x)
+    assert all(set(thresholds.REFUSED) <= asked for asked in (*came.values(), without_runs))
 
 
 # Studies
@@ -202,8 +282,8 @@ def test_bytes_of_a_request() -> None:
 def test_bytes_of_three_buffers() -> None:
     """A report's reply has the study and both outputs; a comparison's its counts."""
     words = rules.add(rules.open_study(2, [9] * 13).buffers[0], 7, [3, 2, 2, ROOT]).buffers[0]
-    call = sequences.report(words, [1] * 4, [2] * 4)
-    assert calls.request_words(call) == [4, 0, 0, 13, 4, 4, *words, *[1] * 4, *[2] * 4]
+    call = sequences.report(words, 75, [1] * 4, [2] * 4)
+    assert calls.request_words(call) == [4, 75, 0, 13, 4, 4, *words, *[1] * 4, *[2] * 4]
     reply = [0] * 6 + [*words, 3, 2, 2, ROOT, 1, 1, 1, 1]
     assert calls.reply_words(calls.answer(call)) == reply
     call = calls.Call(calls.COMPARE, 2, [[3, 2, 2, ROOT], [3, 2, 2, 2]])

@@ -7,6 +7,7 @@ from __future__ import annotations
 
 import sys
 import traceback
+from fractions import Fraction
 from itertools import combinations, product
 from random import Random
 from typing import Callable
@@ -19,8 +20,9 @@ import rows  # noqa: E402
 import rules  # noqa: E402
 import shapes  # noqa: E402
 import test_makers  # noqa: E402
+import thresholds  # noqa: E402
 from listing import listed  # noqa: E402
-from rules import ROOT, Words  # noqa: E402
+from rules import BY_DEFAULT, ROOT, Tree, Words  # noqa: E402
 from specimens import BARE_3, ONLY_TREE_OF_2, RUNS_OF_5, WITH_01, WITH_02  # noqa: E402
 
 RUN_1, RUN_2, RUN_3 = RUNS_OF_5
@@ -60,9 +62,9 @@ def study_of(n: int, runs: list[Words]) -> Words:
     return words
 
 
-def reported(words: Words, n: int) -> list[Words]:
+def reported(words: Words, n: int, p: int = BY_DEFAULT) -> list[Words]:
     """The agreed row and the support row of a report that is accepted."""
-    answer = rules.report(words, [7] * 2 * n, [8] * 2 * n)
+    answer = rules.report(words, p, [7] * 2 * n, [8] * 2 * n)
     assert verdict(answer) == (0, 0) and answer.buffers[0] == words
     return answer.buffers[1:]
 
@@ -163,8 +165,8 @@ def test_lengths() -> None:
         refusal_leaves_all(rules.renumber(3, wrong, [0] * 6), 3, 0, wrong, [0] * 6)
         refusal_leaves_all(rules.compare(3, [9] * 6, wrong), 3, 0, [9] * 6, wrong)
         study = opened(3, 20)
-        refusal_leaves_all(rules.report(study, [0] * 6, wrong), 3, 0, study, [0] * 6, wrong)
-        refusal_leaves_all(rules.report(study, wrong, [0] * 6), 3, 0, study, wrong, [0] * 6)
+        refusal_leaves_all(rules.report(study, 0, [0] * 6, wrong), 3, 0, study, [0] * 6, wrong)
+        refusal_leaves_all(rules.report(study, 0, wrong, [0] * 6), 3, 0, study, wrong, [0] * 6)
         refusal_leaves_all(rules.add(study, 0, wrong), 3, 0, study, wrong)
 
 
@@ -176,6 +178,19 @@ def test_three_runs() -> None:
     agreed, support = reported(study_of(5, [RUN_1, RUN_2, RUN_3]), 5)
     assert agreed == [9, 7, 7, 6, 8, 8, ROOT, 5, 6, 5]
     assert support == [3, 3, 3, 3, 3, 3, 3, 2, 2, 2]
+
+
+def test_three_runs_at_thresholds() -> None:
+    """RULES 10.1 and 5.1: 2 of 3 is more than 66 per cent and not more than 67."""
+    words = study_of(5, [RUN_1, RUN_2, RUN_3])
+    for p in (0, 50, 66):
+        agreed, support = reported(words, 5, p)
+        assert agreed == [9, 7, 7, 6, 8, 8, ROOT, 5, 6, 5]
+        assert support == [3, 3, 3, 3, 3, 3, 3, 2, 2, 2]
+    for p in (67, 100):
+        agreed, support = reported(words, 5, p)
+        assert agreed == [6, 5, 5, 5, 5, 5, ROOT, 0, 0, 0]
+        assert support == [3, 3, 3, 3, 3, 3, 3, 0, 0, 0]
 
 
 def test_groups_of_three_runs() -> None:
@@ -196,6 +211,25 @@ def test_halves_and_three_of_four() -> None:
     assert reported(two_of_four, 3) == [BARE_3, [4, 4, 4, 4, 4, 0]]
     three_of_four = study_of(3, [WITH_01, WITH_02, WITH_01, WITH_01])
     assert reported(three_of_four, 3) == [WITH_01, [4, 4, 4, 4, 4, 3]]
+    assert reported(three_of_four, 3, 74) == [WITH_01, [4, 4, 4, 4, 4, 3]]
+    assert reported(three_of_four, 3, 75) == [BARE_3, [4, 4, 4, 4, 4, 0]]
+
+
+def test_what_all_runs_hold() -> None:
+    """RULES 5.1: at 100 what all runs hold is shown, and nothing else."""
+    for k in (1, 2, 5):
+        all_hold = study_of(3, [WITH_01] * k)
+        assert reported(all_hold, 3, 100) == [WITH_01, [k] * 6]
+        all_but_one = added(all_hold, 9, WITH_02)
+        assert reported(all_but_one, 3, 100) == [BARE_3, [k + 1] * 5 + [0]]
+
+
+def test_all_but_one_at_99() -> None:
+    """RULES 5.1: all runs but one are more than 99 per cent of 101 runs, and not of 100."""
+    one, other = rules.groups_of(3, WITH_01), rules.groups_of(3, WITH_02)
+    for k, agreed in ((99, BARE_3), (100, BARE_3), (101, WITH_01)):
+        runs = {1: other, **{identifier: one for identifier in range(2, k + 1)}}
+        assert reported(rules.write_study(1000, rules.Study(3, runs)), 3, 99)[0] == agreed
 
 
 def test_one_run_is_reported() -> None:
@@ -228,7 +262,7 @@ def test_last_run_withdrawn() -> None:
     """RULES 10.10: no report once the last run is withdrawn."""
     words = withdrawn(study_of(3, [WITH_01]), 1)
     assert words == opened(3, 300)
-    refusal_leaves_all(rules.report(words, [1] * 6, [2] * 6), 14, 0, words, [1] * 6, [2] * 6)
+    refusal_leaves_all(rules.report(words, 0, [1] * 6, [2] * 6), 14, 0, words, [1] * 6, [2] * 6)
 
 
 def test_added_again() -> None:
@@ -279,7 +313,7 @@ def test_not_well_formed() -> None:
         damaged = words[:i] + [word] + words[i + 1 :]
         refusal_leaves_all(rules.withdraw(damaged, 0), 2, 0, damaged)
         refusal_leaves_all(rules.add(damaged, 0, []), 2, 0, damaged, [])
-        refusal_leaves_all(rules.report(damaged, [], []), 2, 0, damaged, [], [])
+        refusal_leaves_all(rules.report(damaged, 1, [], []), 2, 0, damaged, [], [])
     unordered = [65, 82, 66, 1, 3, 1, 0, 0, 5, 5, 3, 3, 4, 4, ROOT]
     assert rules.judge(3, unordered[9:]).number == 0
     refusal_leaves_all(rules.withdraw(unordered, 5), 2, 0, unordered)
@@ -287,17 +321,58 @@ def test_not_well_formed() -> None:
         assert rules.read_study(opened(3, 15)[:length]) is None
 
 
-def test_report_is_majority() -> None:
-    """Every set of samples is shown exactly if more than half of the runs hold it."""
+def test_refused_thresholds() -> None:
+    """RULES 5.7: 16 for p other than 0 and 50 to 100, however large."""
+    words = study_of(3, [WITH_01, WITH_02])
+    for p in [*range(1, 50), *range(101, 400), 65535, 65536, 65586, 2**32 + 50, 2**64 - 1]:
+        refusal_leaves_all(rules.report(words, p, [1] * 6, [2] * 6), 16, 0, words, [1] * 6, [2] * 6)
+    for p in [0, *range(50, 101)]:
+        assert reported(words, 3, p) == [BARE_3, [2, 2, 2, 2, 2, 0]]
+
+
+def test_order_of_reporting() -> None:
+    """RULES 7.2: 2, then 3, then 16, then 14."""
+    empty, right, wrong = opened(3, 20), [1] * 6, [1] * 5
+    damaged = empty[:-1] + [1]
+    for p, number in ((49, 16), (101, 16), (306, 16), (0, 14), (50, 14), (100, 14)):
+        refusal_leaves_all(rules.report(damaged, p, wrong, right), 2, 0, damaged, wrong, right)
+        refusal_leaves_all(rules.report(empty, p, wrong, right), 3, 0, empty, wrong, right)
+        refusal_leaves_all(rules.report(empty, p, right, wrong), 3, 0, empty, right, wrong)
+        refusal_leaves_all(rules.report(empty, p, right, right), number, 0, empty, right, right)
+
+
+def test_report_is_the_rule() -> None:
+    """Every set of samples is shown exactly if RULES 5.1 says so, by fractions."""
     rng = Random(3)
     for k in range(1, 9):
         for trees in (shapes.runs_near(rng, 5, k), shapes.runs_halved(rng, 5, k)):
-            words = study_of(5, [rows.shuffled_row(rng, 5, tree) for tree in trees])
-            agreed, support = reported(words, 5)
-            shown = rules.groups_of(5, agreed)
-            for samples in sets_of_samples(5):
-                assert (samples in shown) == (2 * sum(samples in tree for tree in trees) > k)
-            assert support[0] == k and all(2 * held > k for held in support[1 : 1 + agreed[0]])
+            for p in (50, 60, 66, 67, 75, 99, 100):
+                by_fractions(rng, trees, p)
+    for p in range(50, 101):
+        for k in (3, rng.randint(4, 20)):
+            by_fractions(rng, thresholds.any_edge(rng, 5, k, p), p)
+
+
+def by_fractions(rng: Random, trees: list[Tree], p: int) -> None:
+    """Asserts that the report of trees of five samples at p has the groups that it has to have."""
+    k = len(trees)
+    words = study_of(5, [rows.shuffled_row(rng, 5, tree) for tree in trees])
+    agreed, support = reported(words, 5, p)
+    shown = rules.groups_of(5, agreed)
+    for samples in sets_of_samples(5):
+        held = Fraction(sum(samples in tree for tree in trees), k)
+        assert (samples in shown) == (held > Fraction(p, 100) or held == 1)
+    assert support[0] == k and all(2 * held > k for held in support[1 : 1 + agreed[0]])
+
+
+def test_default_threshold() -> None:
+    """RULES 5.7: 0 stands for 50."""
+    rng = Random(12)
+    for k in range(1, 13):
+        trees = thresholds.runs_at_edge(rng, 6, k, 50)
+        words = study_of(6, [rows.standard_row(6, tree) for tree in trees])
+        assert reported(words, 6, 0) == reported(words, 6, 50)
+        assert reported(words, 6, 0) == reported(words, 6)
 
 
 def sets_of_samples(n: int) -> list[frozenset[int]]:
