@@ -23,8 +23,8 @@ MARK = [65, 82, 66]  # RULES 6.1
 VERSION = 1  # RULES 6.1
 HEADER = 8  # RULES 6.3: words before the first slot
 WHOLE = 100  # RULES 5.1: all runs, in per cent
-BY_DEFAULT = 0  # RULES 5.7: what stands for the default threshold
-DEFAULT_THRESHOLD = 50  # RULES 5.7
+BY_DEFAULT = 0  # RULES 5.8: what stands for the default threshold
+DEFAULT_THRESHOLD = 50  # RULES 5.8
 LEAST_THRESHOLD, MOST_THRESHOLD = 50, 100  # RULES 5.7
 
 
@@ -381,7 +381,7 @@ def report(words: Words, p: int, agreed: Words, support: Words) -> Answer:
     study = read_study(words)
     if study is None:  # 2: not well formed
         return refused((2, 0), [words, agreed, support])
-    # RULES 7.2: 16 comes before 14.
+    # RULES 7.8: 16 comes before 14.
     refusal = (
         length_refusal(study.n, agreed, support) or threshold_refusal(p) or empty_refusal(study)
     )
@@ -391,7 +391,7 @@ def report(words: Words, p: int, agreed: Words, support: Words) -> Answer:
 
 
 def threshold(p: int) -> int:
-    """The threshold that p names, in per cent (RULES 5.7)."""
+    """The threshold that p names, in per cent (RULES 5.8)."""
     return DEFAULT_THRESHOLD if p == BY_DEFAULT else p
 
 

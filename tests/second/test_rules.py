@@ -331,7 +331,7 @@ def test_refused_thresholds() -> None:
 
 
 def test_order_of_reporting() -> None:
-    """RULES 7.2: 2, then 3, then 16, then 14."""
+    """RULES 7.8: 2, then 3, then 16, then 14."""
     empty, right, wrong = opened(3, 20), [1] * 6, [1] * 5
     damaged = empty[:-1] + [1]
     for p, number in ((49, 16), (101, 16), (306, 16), (0, 14), (50, 14), (100, 14)):
@@ -366,7 +366,7 @@ def by_fractions(rng: Random, trees: list[Tree], p: int) -> None:
 
 
 def test_default_threshold() -> None:
-    """RULES 5.7: 0 stands for 50."""
+    """RULES 5.8: 0 stands for 50."""
     rng = Random(12)
     for k in range(1, 13):
         trees = thresholds.runs_at_edge(rng, 6, k, 50)

@@ -22,8 +22,8 @@ use Rattle.runs.specs.Reports.{reportChecks, reported}
 use Rattle.runs.specs.CallLaws.{opened-numbers}
 use Rattle.runs.specs.AddLaws.{added-numbers}
 use Rattle.runs.specs.WithdrawLaws.{withdrawn-numbers}
-use Rattle.runs.specs.ReportLaws.{reported-numbers}
-use Rattle.runs.specs.PlacedLaws.{opened-placed, added-placed, withdrawn-placed, reported-placed}
+use Rattle.runs.specs.ReportLaws.{reported-numbers, reported-placed}
+use Rattle.runs.specs.PlacedLaws.{opened-placed, added-placed, withdrawn-placed}
 use Rattle.arb.specs.Packing.{numbers, places, counts, packed, unpacked, unpackedCounts}
 
 -- within the bits

@@ -18,7 +18,7 @@ use Rattle.trees.specs.Outcomes.{Outcome}
 use Rattle.trees.specs.RowCalls.{renumbering, compareChecks, comparing}
 use Rattle.trees.specs.Reporting.{Run, support, total, held, shown, agreed, supportsOf, supports}
 use Rattle.trees.specs.Thresholds.{InRange, threshold}
-use Rattle.trees.specs.Majority.{isShown, majority}
+use Rattle.trees.specs.Majority.{isShown}
 use Rattle.trees.specs.BoolLaws.{and-l, and-r}
 use Rattle.trees.specs.ValidLaws.{accepted-to, judged-valid, only-two, nodes-refused}
 use Rattle.trees.specs.RowCallLaws.{renumbering-accepts}
@@ -26,7 +26,7 @@ use Rattle.runs.specs.Runs.{every, find, insertRun}
 use Rattle.runs.specs.Words.{samples, inForce, runs, slots, encode, capacity, mostIdentifier}
 use Rattle.runs.specs.Calls.{opened}
 use Rattle.runs.specs.Histories.{Distinct, identified, adds, studyAfter}
-use Rattle.runs.specs.Reports.{Report, reported}
+use Rattle.runs.specs.Reports.{Report, ruleOf, reported}
 use Rattle.runs.specs.CallLaws.{Opens, opened-accepts}
 use Rattle.runs.specs.HistoryLaws.{study-kept}
 use Rattle.runs.specs.FreshLaws.{Fit, gathered, filled-takes, filled-words}
@@ -78,8 +78,8 @@ record Stores (n : ℕ) (rs : List Run) (words : List ℕ) : Type 0 where
 
 record Shows (words : List ℕ) (p : ℕ) (a s : List ℕ) : Type 0 where
   inRange : InRange (threshold p)
-  row : agreed (majority (threshold p)) (samples words) (runs words) ≡ a
-  counts : supports (majority (threshold p)) (samples words) (runs words) ≡ s
+  row : agreed (ruleOf p) (samples words) (runs words) ≡ a
+  counts : supports (ruleOf p) (samples words) (runs words) ≡ s
 
 reports-so : (n : ℕ) (rs : List Run) (words : List ℕ) (p : ℕ) (a s : List ℕ) → Stores n rs words → Shows words p a s
     → (w x y : List ℕ) → length w ≡ length words → length x ≡ rowWords n → length y ≡ rowWords n → RunsGive n rs words p a s w x y
@@ -101,8 +101,8 @@ reports-so n rs words p a s c f w x y l d e = record { opens = opens; takes = fi
     left : Verdict → Report
     left v = record {
       verdict = v;
-      agreedRow = cond (isAccepted v) (agreed (majority (threshold p)) (samples words) (runs words)) x;
-      supportRow = cond (isAccepted v) (supports (majority (threshold p)) (samples words) (runs words)) y;
+      agreedRow = cond (isAccepted v) (agreed (ruleOf p) (samples words) (runs words)) x;
+      supportRow = cond (isAccepted v) (supports (ruleOf p) (samples words) (runs words)) y;
     }
 
     shown : reported words p x y ≡ shows a s

@@ -1,4 +1,4 @@
--- The specimens that are proved (RULES 10.1 to 10.7): one table, and what each of its rows says of the calls.
+-- The specimens that are proved (RULES 10.1 to 10.6, 10.11): one table, and what each of its rows says of the calls.
 use Prim.Native.Nat.{ℕ}
 use mathlib.Core.Path.{_≡_}
 use mathlib.Core.List.{List, [], _∷_, _++_}
@@ -106,7 +106,7 @@ specimens =
     -- comparisons (RULES 10.6): of the second one the two sides differ
     ∷ compares 5 row1 row2 (counted 7 1 1)
     ∷ compares 5 row1 row3 (counted 7 1 2)
-    -- the three runs at other thresholds (RULES 10.7)
+    -- the three runs at other thresholds (RULES 10.11)
     ∷ reports 5 caseRuns threeRuns 50 agreedRow supportRow
     ∷ reports 5 caseRuns threeRuns 66 agreedRow supportRow
     ∷ reports 5 caseRuns threeRuns 67 bareRow wholeRow

@@ -14,7 +14,6 @@ use Rattle.trees.specs.Checks.{Verdict, accepted, refused, counted, Check, orEl
 use Rattle.trees.specs.Valid.{isAccepted}
 use Rattle.trees.specs.Reporting.{agreed, supports}
 use Rattle.trees.specs.Thresholds.{leastThreshold, mostThreshold, threshold}
-use Rattle.trees.specs.Majority.{majority}
 use Rattle.trees.specs.BoolLaws.{and-l, and-r, decide}
 use Rattle.trees.specs.ListLaws.{length-zeros}
 use Rattle.trees.specs.ChainLaws.{Passed, Given, here, later, chain-holds, numbers}
@@ -25,7 +24,7 @@ use Rattle.runs.specs.Runs.{every}
 use Rattle.runs.specs.Words.{inForce}
 use Rattle.runs.specs.Calls.{opened, added, openChecks, addChecks}
 use Rattle.runs.specs.Histories.{Call, called, answers, after}
-use Rattle.runs.specs.Reports.{Report, reported, reportChecks, reportFormedChecks}
+use Rattle.runs.specs.Reports.{Report, ruleOf, reported, reportChecks, reportFormedChecks}
 use Rattle.runs.specs.WordLaws.{length-runs}
 use Rattle.runs.specs.FormedLaws.{formed-from}
 use Rattle.runs.specs.CallLaws.{Kept, opened-kept, opened-none}
@@ -310,7 +309,7 @@ module _ (bytes : List ℕ) (b : Bytes bytes) where
 
   -- a good file with slots, to none of which a line applies, is listed as the agreed tree of its runs
   pub listed-whole : Fit bytes → 0 < k → ((j : ℕ) → j < k → Passed (slotChecks bytes n j))
-      → listed bytes ≡ tree n k (agreed (majority (threshold 0)) n (slotRuns bytes n k)) (supports (majority (threshold 0)) n (slotRuns bytes n k))
+      → listed bytes ≡ tree n k (agreed (ruleOf 0) n (slotRuns bytes n k)) (supports (ruleOf 0) n (slotRuns bytes n k))
   listed-whole f some g = listed-tree bytes n k _ _ .1 (record {
     good = f .sound;
     samples = refl;
@@ -328,8 +327,8 @@ module _ (bytes : List ℕ) (b : Bytes bytes) where
       report : fileReport bytes n k .verdict ≡ accepted
       report = whole-answer f takes ∙ (rw (ne-eqb k 0 (λ e. omega arith)))
 
-      rows : (fileReport bytes n k .agreedRow ≡ agreed (majority (threshold 0)) n (slotRuns bytes n k))
-          × (fileReport bytes n k .supportRow ≡ supports (majority (threshold 0)) n (slotRuns bytes n k))
+      rows : (fileReport bytes n k .agreedRow ≡ agreed (ruleOf 0) n (slotRuns bytes n k))
+          × (fileReport bytes n k .supportRow ≡ supports (ruleOf 0) n (slotRuns bytes n k))
       rows =
           let x = zeros (rowWords n) in
           rw (study-formed bytes f b k .same, study-runs bytes f b k takes) at (reported-rows (fileStudy bytes n k) 0 x x report)

@@ -14,11 +14,12 @@ use Rattle.trees.specs.Checks.{_⊳_, rowChecks}
 use Rattle.trees.specs.Numbering.{enter, ordered, groupSet, lastWith, parents, rowOf, renumbered}
 use Rattle.trees.specs.Reporting.{support, total, held, shown, agreed, supportsOf, supports}
 use Rattle.trees.specs.Thresholds.{threshold}
-use Rattle.trees.specs.Majority.{isShown, majority}
+use Rattle.trees.specs.Majority.{isShown}
 use Rattle.trees.specs.Case.{agreedRow, supportRow}
 use Rattle.trees.specs.BoolLaws.{and-l, and-r}
 use Rattle.trees.specs.ChainLaws.{Passed, chain-passed}
 use Rattle.runs.specs.Runs.{every, insertRun}
+use Rattle.runs.specs.Reports.{ruleOf}
 use Rattle.file.specs.Ascii.{ascii}
 use Rattle.file.specs.Files.{badFile, begins, wordAt, fileBytes, fileSamples, fileRuns, slotIdentifier, slotRow}
 use Rattle.file.specs.FileLaws.{Sound, good-file}
@@ -57,7 +58,7 @@ input-passed (suc (suc zero)) h = chain-passed (slotChecks input 5 2) refl
 input-passed (suc (suc (suc j))) h = absurd (omega arith)
 
 -- their agreed row and support row
-input-rows : (agreed (majority (threshold 0)) 5 (slotRuns input 5 3) ≡ agreedRow) × (supports (majority (threshold 0)) 5 (slotRuns input 5 3) ≡ supportRow)
+input-rows : (agreed (ruleOf 0) 5 (slotRuns input 5 3) ≡ agreedRow) × (supports (ruleOf 0) 5 (slotRuns input 5 3) ≡ supportRow)
 unfolding slotRuns insertRun slotIdentifier slotRow wordAt fileBytes bytesOf tabulate filter weigh size lowest same listFirst before member nodes parent
     meets groupAt groups enter ordered groupSet lastWith parents rowOf renumbered support total held shown agreed supportsOf threshold isShown
 input-rows = (refl, refl)

@@ -18,7 +18,7 @@ use Rattle.trees.specs.CheckLaws.{outside-not}
 use Rattle.trees.specs.MajorityLaws.{majority-standard}
 use Rattle.runs.specs.Words.{samples, runs}
 use Rattle.runs.specs.Calls.{check2}
-use Rattle.runs.specs.Reports.{check16, reportFormedChecks, reportChecks, reported}
+use Rattle.runs.specs.Reports.{check16, reportFormedChecks, reportChecks, ruleOf, reported}
 use Rattle.runs.specs.ReportLaws.{reported-refused, reported-rows}
 use Rattle.judge.specs.declared.Answer.{Answer}
 use Rattle.judge.specs.declared.Answer.the-variants.{Accepted, Refused}
@@ -91,11 +91,11 @@ module _ {w : List ℕ} {n k p t : ℕ} {a s : List ℕ} {r : Answer} (g : Answe
     )
       where
         row : List ℕ
-        row = agreed (majority (threshold p)) (samples w) (runs w)
+        row = agreed (ruleOf p) (samples w) (runs w)
 
         same : b ≡ row
         same = f ∙ ap (λ (x : ℕ). agreed (majority x) n (runs w)) (g .stands)
-            ∙ ap (λ (x : ℕ). agreed (majority (threshold p)) x (runs w)) (g .study .over)
+            ∙ ap (λ (x : ℕ). agreed (ruleOf p) x (runs w)) (g .study .over)
 
 -- ---- check 2
 

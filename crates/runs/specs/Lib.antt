@@ -16,6 +16,6 @@ pub mod FreshLaws
 pub mod RoomLaws
 pub mod StoredLaws
 pub mod MoveLaws
+pub mod PlacedLaws
 pub mod Reports
 pub mod ReportLaws
-pub mod PlacedLaws

@@ -1,7 +1,7 @@
--- Where opening, adding, withdrawing and reporting refuse, the place is 0 or a node or word of the row. Assumes nothing.
+-- Where opening, adding and withdrawing refuse, the place is 0 or a node or word of the row. Assumes nothing.
 use Prim.Native.Nat.{ℕ}
 use mathlib.Core.List.{List, [], _∷_}
-use mathlib.Core.Bool.{Bool, not, _||_}
+use mathlib.Core.Bool.{Bool, not}
 use native.Mathlib.Omega.{arith}
 use lib.Dec.{eqb, ltb}
 use lib.ListN.{length}
@@ -10,15 +10,13 @@ use Rattle.trees.specs.Checks.{Check, line, fewestSamples, mostSamples, rowWord
 use Rattle.trees.specs.ChainLaws.{line-passes}
 use Rattle.trees.specs.PlacedLaws.{Placed, placed-none, placed-line, placed-append, mostPlaces, row-within}
 use Rattle.runs.specs.Runs.{present}
-use Rattle.runs.specs.Words.{samples, inForce, runs, capacity, full}
+use Rattle.runs.specs.Words.{samples, runs, capacity, full}
 use Rattle.runs.specs.Formed.{wellFormed}
 use Rattle.runs.specs.Calls.{check11, check12, openChecks, addFormedChecks, addChecks, withdrawFormedChecks, withdrawChecks}
 use Rattle.runs.specs.FormedLaws.{formed-to}
-use Rattle.trees.specs.Thresholds.{leastThreshold, mostThreshold, threshold}
-use Rattle.runs.specs.Reports.{reportFormedChecks, reportChecks}
 
 -- one line more in front
-front : (number : ℕ) (t : Bool) (cs : List Check) → Placed mostPlaces cs → Placed mostPlaces (line number t ∷ cs)
+pub front : (number : ℕ) (t : Bool) (cs : List Check) → Placed mostPlaces cs → Placed mostPlaces (line number t ∷ cs)
 front number t cs f = placed-line mostPlaces number t cs (omega arith) (λ e. f)
 
 pub opened-placed : (n : ℕ) (w : List ℕ) → Placed mostPlaces (openChecks n w)
@@ -36,9 +34,3 @@ added-placed w i row = placed-line mostPlaces 2 (not (wellFormed w)) _ (omega ar
 pub withdrawn-placed : (w : List ℕ) (i : ℕ) → Placed mostPlaces (withdrawChecks w i)
 unfolding withdrawChecks withdrawFormedChecks
 withdrawn-placed w i = front 2 (not (wellFormed w)) _ (front 4 (eqb i 0) _ (front 13 (not (present i (runs w))) _ (placed-none mostPlaces)))
-
-pub reported-placed : (w : List ℕ) (p : ℕ) (a s : List ℕ) → Placed mostPlaces (reportChecks w p a s)
-unfolding reportChecks reportFormedChecks
-reported-placed w p a s = front 2 (not (wellFormed w)) _ (front 3
-    (not (eqb (length a) (rowWords (samples w))) || not (eqb (length s) (rowWords (samples w)))) _
-    (front 16 (outside leastThreshold mostThreshold (threshold p)) _ (front 14 (eqb (inForce w) 0) _ (placed-none mostPlaces))))

@@ -12,7 +12,7 @@ use borrow.Author.Tests.{eqb-false, ne-eqb, not-false, le-ltb}
 use Rattle.trees.specs.Lists.{nowhere, weigh}
 use Rattle.trees.specs.Groups.{Group, member}
 use Rattle.trees.specs.Rows.{nodes, groupAt, groups, holds}
-use Rattle.trees.specs.Checks.{Verdict, accepted, refused, _⊳_, rowWords}
+use Rattle.trees.specs.Checks.{Verdict, accepted, refused, _⊳_, rowWords, outside}
 use Rattle.trees.specs.Valid.{In, Standard, isAccepted}
 use Rattle.trees.specs.Reporting.{Run, support, agreed, supportsOf, supports}
 use Rattle.trees.specs.Thresholds.{leastThreshold, mostThreshold, InRange, threshold}
@@ -20,6 +20,7 @@ use Rattle.trees.specs.Majority.{isShown, majority}
 use Rattle.trees.specs.BoolLaws.{or-r}
 use Rattle.trees.specs.ChainLaws.{numbers, Exactly, accepted-other, refused-exactly, passed-chain, chain-passed, line-passes, line-pass}
 use Rattle.trees.specs.CheckLaws.{outside-not, not-outside}
+use Rattle.trees.specs.PlacedLaws.{Placed, placed-none, mostPlaces}
 use Rattle.trees.specs.RowCallLaws.{both-lengths, both-fit}
 use Rattle.trees.specs.GroupLaws.{Agree}
 use Rattle.trees.specs.NumberingLaws.{standard-unique}
@@ -31,7 +32,8 @@ use Rattle.runs.specs.Words.{samples, inForce, runs}
 use Rattle.runs.specs.Formed.{wellFormed, Formed}
 use Rattle.runs.specs.WordLaws.{length-runs}
 use Rattle.runs.specs.FormedLaws.{formed-to, formed-from, formed-valid}
-use Rattle.runs.specs.Reports.{check16, reportFormedChecks, reportChecks, reported}
+use Rattle.runs.specs.PlacedLaws.{front}
+use Rattle.runs.specs.Reports.{check16, reportFormedChecks, reportChecks, ruleOf, reported}
 
 -- check 16 in its own figures (RULES 5.7)
 pub threshold-exactly : (p : ℕ) → (check16 (threshold p) .fault ≡ nowhere) ↔ ((p ≡ 0) ⊎ ((50 ≤ p) × (p ≤ 100)))
@@ -54,6 +56,13 @@ module _ (w : List ℕ) (p : ℕ) (a s : List ℕ) where
   unfolding reportChecks reportFormedChecks
   reported-numbers = refl
 
+  -- none of them has a place
+  pub reported-placed : Placed mostPlaces (reportChecks w p a s)
+  unfolding reportChecks reportFormedChecks
+  reported-placed = front 2 (not (wellFormed w)) _ (front 3
+      (not (eqb (length a) (rowWords (samples w))) || not (eqb (length s) (rowWords (samples w)))) _
+      (front 16 (outside leastThreshold mostThreshold (threshold p)) _ (front 14 (eqb (inForce w) 0) _ (placed-none mostPlaces))))
+
   -- DEMAND 1 of reporting (RULES D1)
   pub reported-exactly : (k i : ℕ) → (reported w p a s .verdict ≡ refused k i) ↔ Exactly k i (reportChecks w p a s)
   unfolding reported
@@ -63,18 +72,18 @@ module _ (w : List ℕ) (p : ℕ) (a s : List ℕ) where
   pub reported-refused : (k i : ℕ) → reported w p a s .verdict ≡ refused k i → (reported w p a s .agreedRow ≡ a) × (reported w p a s .supportRow ≡ s)
   unfolding reported
   reported-refused k i e = (
-    ap (λ (v : Verdict). cond (isAccepted v) (agreed (majority (threshold p)) (samples w) (runs w)) a) e,
-    ap (λ (v : Verdict). cond (isAccepted v) (supports (majority (threshold p)) (samples w) (runs w)) s) e,
+    ap (λ (v : Verdict). cond (isAccepted v) (agreed (ruleOf p) (samples w) (runs w)) a) e,
+    ap (λ (v : Verdict). cond (isAccepted v) (supports (ruleOf p) (samples w) (runs w)) s) e,
   )
 
   -- an accepted report leaves the agreed row and the support row of the runs in force
   pub reported-rows : reported w p a s .verdict ≡ accepted
-      → (reported w p a s .agreedRow ≡ agreed (majority (threshold p)) (samples w) (runs w))
-      × (reported w p a s .supportRow ≡ supports (majority (threshold p)) (samples w) (runs w))
+      → (reported w p a s .agreedRow ≡ agreed (ruleOf p) (samples w) (runs w))
+      × (reported w p a s .supportRow ≡ supports (ruleOf p) (samples w) (runs w))
   unfolding reported
   reported-rows e = (
-    ap (λ (v : Verdict). cond (isAccepted v) (agreed (majority (threshold p)) (samples w) (runs w)) a) e,
-    ap (λ (v : Verdict). cond (isAccepted v) (supports (majority (threshold p)) (samples w) (runs w)) s) e,
+    ap (λ (v : Verdict). cond (isAccepted v) (agreed (ruleOf p) (samples w) (runs w)) a) e,
+    ap (λ (v : Verdict). cond (isAccepted v) (supports (ruleOf p) (samples w) (runs w)) s) e,
   )
 
   -- it is accepted exactly if the study is well formed, both buffers have 2n words, p stands for a threshold in range and a run is in force

@@ -6,7 +6,7 @@ use lib.Dec.{eqb}
 use Rattle.trees.specs.Checks.{Verdict, accepted, Check, line, _⊳_, outside}
 use Rattle.trees.specs.Valid.{isAccepted}
 use Rattle.trees.specs.RowCalls.{check3Both}
-use Rattle.trees.specs.Reporting.{agreed, supports}
+use Rattle.trees.specs.Reporting.{Rule, agreed, supports}
 use Rattle.trees.specs.Thresholds.{leastThreshold, mostThreshold, threshold}
 use Rattle.trees.specs.Majority.{majority}
 use Rattle.runs.specs.Words.{samples, inForce, runs}
@@ -33,13 +33,16 @@ reportFormedChecks w p a s = check3Both (samples w) a s ∷ check16 (threshold p
 unfoldable pub reportChecks : List ℕ → ℕ → List ℕ → List ℕ → List Check
 reportChecks w p a s = check2 w ∷ reportFormedChecks w p a s
 
+-- the rule of a report at p (RULES 5.1, 5.8)
+abbrev pub ruleOf : ℕ → Rule
+ruleOf p = majority (threshold p)
+
 -- what reporting at p answers, and its two buffers after it: the agreed row and the support row (RULES 5.4, 5.5), or what they held before (RULES 7.4)
 unfoldable pub reported : List ℕ → ℕ → List ℕ → List ℕ → Report
 reported w p a s =
     let yes = isAccepted (reportChecks w p a s ⊳ accepted) in
-    let rule = majority (threshold p) in
     record {
       verdict = reportChecks w p a s ⊳ accepted;
-      agreedRow = cond yes (agreed rule (samples w) (runs w)) a;
-      supportRow = cond yes (supports rule (samples w) (runs w)) s;
+      agreedRow = cond yes (agreed (ruleOf p) (samples w) (runs w)) a;
+      supportRow = cond yes (supports (ruleOf p) (samples w) (runs w)) s;
     }

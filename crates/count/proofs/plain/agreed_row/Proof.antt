@@ -28,7 +28,7 @@ bare-requires c κs =
 references-requires : tie.Need-references-requires Inv-loop μ-loop
 references-requires c κs =
     let st : tie.Start Inv-loop μ-loop = search needs in
-    (st .pre .4 .1, study-few _ _ _ (st .pre .0))
+    (omega (arith, st .pre .4), study-few _ _ _ (st .pre .0))
 
 loop-holds : tie.Need-loop-holds Inv-loop μ-loop
 loop-holds c =
