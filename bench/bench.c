@@ -5,11 +5,11 @@
 #include "hashed.h"
 #include "plain.h"
 
-enum { ABSENT = 65535, ENGINES = 3, SIZES = 4, HALF = 50 };
+enum { ABSENT = 65535, ENGINES = 3, SIZES = 4, THRESHOLDS = 3, HALF = 50 };
 enum engine { LIBRARY, PLAIN, HASHED };
 
 static const int sizes[SIZES][2] = {{50, 324}, {512, 31}, {200, 500}, {512, 1024}};
-static const int thresholds[] = {HALF, 75, 100};
+static const int thresholds[THRESHOLDS] = {HALF, 75, 100};
 
 // In eighths of a run's groups: half are common to all runs and half its own; or they are common to all, to most, to many runs, or its own.
 static const int alike[PARTS] = {4, 4, 4}, graded[PARTS] = {2, 3, 4};
@@ -100,31 +100,42 @@ static void measure_shape(enum shape shape) {
     }
 }
 
-// The seconds of the library's report at p, which is printed with its ratio to plain C.
+// The seconds of the library's report at p; prints how many groups it shows, its time and its ratio to plain C.
 static double measure_report(void) {
     double plain = seconds(checked_report, PLAIN), library = seconds(checked_report, LIBRARY);
     report(HASHED);
     compare_answers();
-    printf("| %d × %d | %d | %d of %d | %.2f ms | %.2f |", n, k, p, agreed[LIBRARY][0] - n, n - 1, library * 1e3, library / plain);
+    printf(" %d of %d | %.2f ms | %.2f |", agreed[LIBRARY][0] - n, n - 1, library * 1e3, library / plain);
     return library;
 }
 
 // What the stated cost says of a report at p, over one at 50: each run tried is held against all runs, and so is the agreed row.
 static double stated_cost(void) { return (tried_runs(k, p) + 1.0) / (tried_runs(k, HALF) + 1); }
 
+static void print_threshold_heads(void) {
+    printf("| n × k |");
+    for (size_t j = 0; j < THRESHOLDS; j++) {
+        printf(" shown at %d | report | to plain C |", thresholds[j]);
+        if (thresholds[j] != HALF) printf(" to %d | as runs tried |", HALF);
+    }
+    printf("\n|%s\n", "---|---|---|---|---|---|---|---|---|---|---|---|---|---|");
+}
+
 static void measure_thresholds(enum shape shape) {
-    printf("\n%s at thresholds\n\n| n × k | p | groups shown | report | to plain C | to p = 50 | as runs tried |\n"
-        "|---|---|---|---|---|---|---|\n", name_of(shape));
+    printf("\n%s at thresholds\n\n", name_of(shape));
+    print_threshold_heads();
     for (int i = 0; i < SIZES; i++) {
+        double at_half = 0;
         n = sizes[i][0], k = sizes[i][1];
         draw_study(shape, graded);
-        double at_half = 0;
-        for (size_t j = 0; j < sizeof thresholds / sizeof *thresholds; j++) {
+        printf("| %d × %d |", n, k);
+        for (size_t j = 0; j < THRESHOLDS; j++) {
             p = thresholds[j];
             double library = measure_report();
-            if (p == HALF) at_half = library, printf(" | |\n");
-            else printf(" %.4f | %.4f |\n", library / at_half, stated_cost());
+            if (p == HALF) at_half = library;
+            else printf(" %.4f | %.4f |", library / at_half, stated_cost());
         }
+        printf("\n");
     }
     p = HALF;
 }
