@@ -58,7 +58,7 @@ extern "C" {
 #define ARB_LEAST_IDENTIFIER 1
 #define ARB_MOST_IDENTIFIER 65535
 #define ARB_ROOT_MARK 65535
-#define ARB_DEFAULT_THRESHOLD 0 /* stands for 50 */
+#define ARB_NO_THRESHOLD 0 /* names none, and so the default, 50 */
 #define ARB_LEAST_THRESHOLD 50
 #define ARB_MOST_THRESHOLD 100
 

@@ -414,7 +414,7 @@ static void test_macros(void) {
     check("an answer of 0 is accepted", ARB_ACCEPTED((uint64_t)0) && ARB_NUMBER((uint64_t)0) == 0);
     check("a refusal's number and place", !ARB_ACCEPTED(answer) && ARB_NUMBER(answer) == ARB_REFUSAL_CHILDREN && ARB_PLACE(answer) == 4);
     check("a refused threshold's number", ARB_REFUSAL_THRESHOLD == 16);
-    check("the bounds of thresholds", ARB_DEFAULT_THRESHOLD == 0 && ARB_LEAST_THRESHOLD == 50 && ARB_MOST_THRESHOLD == 100);
+    check("the bounds of thresholds", ARB_NO_THRESHOLD == 0 && ARB_LEAST_THRESHOLD == 50 && ARB_MOST_THRESHOLD == 100);
     check("three counts", ARB_ACCEPTED(counted) && ARB_IN_BOTH(counted) == 7 && ARB_ONLY_FIRST(counted) == 1 && ARB_ONLY_SECOND(counted) == 1);
     check("words of rows and studies", ARB_ROW_WORDS(5) == 10 && ARB_SLOT_WORDS(5) == 11 && ARB_STUDY_WORDS(5, 3) == 41 && ARB_STUDY_WORDS(2, 1) == 13);
 }

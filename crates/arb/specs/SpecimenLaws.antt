@@ -144,35 +144,22 @@ two-runs = record {
   some = omega arith;
 }
 
-three-unnamed : Shows threeRuns 0 agreedRow supportRow
+three-shown : Shows threeRuns 0 agreedRow supportRow × Shows threeRuns 50 agreedRow supportRow × Shows threeRuns 66 agreedRow supportRow
+    × Shows threeRuns 67 bareRow wholeRow × Shows threeRuns 100 bareRow wholeRow
 unfolding tabulate filter weigh size lowest same listFirst before member nodes parent meets groupAt groups
     enter ordered lastWith parents rowOf support total held shown agreed supportsOf runs threshold isShown
-three-unnamed = record { inRange = (omega arith, omega arith); row = refl; counts = refl }
+three-shown = (
+  record { inRange = (omega arith, omega arith); row = refl; counts = refl },
+  record { inRange = (omega arith, omega arith); row = refl; counts = refl },
+  record { inRange = (omega arith, omega arith); row = refl; counts = refl },
+  record { inRange = (omega arith, omega arith); row = refl; counts = refl },
+  record { inRange = (omega arith, omega arith); row = refl; counts = refl },
+)
 
-three-half : Shows threeRuns 50 agreedRow supportRow
+two-shown : Shows twoRuns 0 (4 ∷ 3 ∷ 3 ∷ 3 ∷ 65535 ∷ 0 ∷ []) (2 ∷ 2 ∷ 2 ∷ 2 ∷ 2 ∷ 0 ∷ [])
 unfolding tabulate filter weigh size lowest same listFirst before member nodes parent meets groupAt groups
     enter ordered lastWith parents rowOf support total held shown agreed supportsOf runs threshold isShown
-three-half = record { inRange = (omega arith, omega arith); row = refl; counts = refl }
-
-three-66 : Shows threeRuns 66 agreedRow supportRow
-unfolding tabulate filter weigh size lowest same listFirst before member nodes parent meets groupAt groups
-    enter ordered lastWith parents rowOf support total held shown agreed supportsOf runs threshold isShown
-three-66 = record { inRange = (omega arith, omega arith); row = refl; counts = refl }
-
-three-67 : Shows threeRuns 67 bareRow wholeRow
-unfolding tabulate filter weigh size lowest same listFirst before member nodes parent meets groupAt groups
-    enter ordered lastWith parents rowOf support total held shown agreed supportsOf runs threshold isShown
-three-67 = record { inRange = (omega arith, omega arith); row = refl; counts = refl }
-
-three-all : Shows threeRuns 100 bareRow wholeRow
-unfolding tabulate filter weigh size lowest same listFirst before member nodes parent meets groupAt groups
-    enter ordered lastWith parents rowOf support total held shown agreed supportsOf runs threshold isShown
-three-all = record { inRange = (omega arith, omega arith); row = refl; counts = refl }
-
-two-unnamed : Shows twoRuns 0 (4 ∷ 3 ∷ 3 ∷ 3 ∷ 65535 ∷ 0 ∷ []) (2 ∷ 2 ∷ 2 ∷ 2 ∷ 2 ∷ 0 ∷ [])
-unfolding tabulate filter weigh size lowest same listFirst before member nodes parent meets groupAt groups
-    enter ordered lastWith parents rowOf support total held shown agreed supportsOf runs threshold isShown
-two-unnamed = record { inRange = (omega arith, omega arith); row = refl; counts = refl }
+two-shown = record { inRange = (omega arith, omega arith); row = refl; counts = refl }
 
 one-tree : Says (renumbers 3 (5 ∷ 3 ∷ 3 ∷ 4 ∷ 4 ∷ 65535 ∷ []) row01)
 unfolding tabulate filter first weigh size lowest same listFirst before member nodes parent meets ends groupAt groups _⊳_ rowChecks judgeChecks judged
@@ -186,7 +173,7 @@ pub specimens-hold : AllSay specimens
 unfolding tabulate filter first weigh size lowest same listFirst before member nodes parent meets ends groupAt groups
     _⊳_ rowChecks judgeChecks judged enter ordered groupSet lastWith parents rowOf renumbered compared compareChecks comparing
 specimens-hold =
-    reports-so 5 _ _ _ _ _ three-runs three-unnamed
+    reports-so 5 _ _ _ _ _ three-runs (three-shown .0)
     and refl
     and only-two
     and refl
@@ -200,11 +187,11 @@ specimens-hold =
     and refl
     and first-word 3 refl
     and first-word 6 refl
-    and reports-so 3 _ _ _ _ _ two-runs two-unnamed
+    and reports-so 3 _ _ _ _ _ two-runs two-shown
     and refl
     and refl
-    and reports-so 5 _ _ _ _ _ three-runs three-half
-    and reports-so 5 _ _ _ _ _ three-runs three-66
-    and reports-so 5 _ _ _ _ _ three-runs three-67
-    and reports-so 5 _ _ _ _ _ three-runs three-all
+    and reports-so 5 _ _ _ _ _ three-runs (three-shown .1)
+    and reports-so 5 _ _ _ _ _ three-runs (three-shown .2)
+    and reports-so 5 _ _ _ _ _ three-runs (three-shown .3)
+    and reports-so 5 _ _ _ _ _ three-runs (three-shown .4)
     and nothing

@@ -2,13 +2,13 @@
 -- Assumes nothing.
 use Prim.Native.Nat.{ℕ, suc, _+_, _*_, _≤_, _<_}
 use mathlib.Core.Path.{_≡_, refl, sym, ap, _∙_}
-use mathlib.Core.Logic.{_↔_, _⊎_}
+use mathlib.Core.Logic.{_↔_, _⊎_, inr}
 use mathlib.Core.List.{List, [], _∷_, List·Memᴰ, List·Memᴰ·head}
 use mathlib.Core.Bool.{Bool, true, false, not, _||_, cond}
 use native.Mathlib.Omega.{arith}
 use lib.Dec.{eqb, ltb}
 use lib.ListN.{length, getD}
-use borrow.Author.Tests.{eqb-false, ne-eqb, not-false, le-ltb}
+use borrow.Author.Tests.{eqb-false, ne-eqb, not-false}
 use Rattle.trees.specs.Lists.{nowhere, weigh}
 use Rattle.trees.specs.Groups.{Group, member}
 use Rattle.trees.specs.Rows.{nodes, groupAt, groups, holds}
@@ -17,7 +17,7 @@ use Rattle.trees.specs.Valid.{In, Standard, isAccepted}
 use Rattle.trees.specs.Reporting.{Run, support, agreed, supportsOf, supports}
 use Rattle.trees.specs.Thresholds.{leastThreshold, mostThreshold, InRange, threshold}
 use Rattle.trees.specs.Majority.{isShown, majority}
-use Rattle.trees.specs.BoolLaws.{or-r}
+use Rattle.trees.specs.BoolLaws.{not-yes}
 use Rattle.trees.specs.ChainLaws.{numbers, Exactly, accepted-other, refused-exactly, passed-chain, chain-passed, line-passes, line-pass}
 use Rattle.trees.specs.CheckLaws.{outside-not, not-outside}
 use Rattle.trees.specs.PlacedLaws.{Placed, placed-none, mostPlaces}
@@ -26,7 +26,7 @@ use Rattle.trees.specs.GroupLaws.{Agree}
 use Rattle.trees.specs.NumberingLaws.{standard-unique}
 use Rattle.trees.specs.ReportingLaws.{Runs, total-length, support-most, supports-length, supports-first, supports-node, supports-filler}
 use Rattle.trees.specs.ThresholdLaws.{threshold-again, threshold-range}
-use Rattle.trees.specs.MajorityLaws.{shown-exactly, shown-fewer, shown-more, shown-half, shown-whole, support-exactly}
+use Rattle.trees.specs.MajorityLaws.{shown-exactly, shown-fewer, shown-some, shown-more, shown-half, shown-whole, support-exactly}
 use Rattle.trees.specs.MajorityLaws.{majority-agree, majority-standard, majority-groups, majority-supports}
 use Rattle.runs.specs.Words.{samples, inForce, runs}
 use Rattle.runs.specs.Formed.{wellFormed, Formed}
@@ -155,12 +155,16 @@ module _ (w : List ℕ) (p : ℕ) (a s : List ℕ) (e : reported w p a s .verdic
   pub reported-standard : Standard (samples w) (reported w p a s .agreedRow)
   reported-standard = rw row std
 
-  -- none missing, none added: any group whatever is one of its groups exactly if 100 times its support is greater than the threshold times k,
-  -- or its support is k (RULES 5.1)
+  -- none missing, none added: any group whatever is one of its groups exactly if it is shown
+  pub reported-shown : (g : Group) → member g (groups (samples w) (reported w p a s .agreedRow))
+      ≡ isShown (threshold p) (inForce w) (support (samples w) (runs w) g)
+  reported-shown g = rw (row, ← length-runs w) (majority-groups t n (runs w) some (fits .inRange .0) ok g)
+
+  -- that is, if 100 times its support is greater than the threshold times k, or its support is k (RULES 5.1)
   pub reported-groups : (g : Group) → member g (groups (samples w) (reported w p a s .agreedRow))
       ≡ (ltb (threshold p * inForce w) (100 * support (samples w) (runs w) g) || eqb (support (samples w) (runs w) g) (inForce w))
   unfolding isShown
-  reported-groups g = rw (row, ← length-runs w) (majority-groups t n (runs w) some (fits .inRange .0) ok g)
+  reported-groups g = reported-shown g
 
   -- its groups agree pairwise (RULES 5.3)
   pub reported-agree : (g h : Group) → In g (groups (samples w) (reported w p a s .agreedRow)) → In h (groups (samples w) (reported w p a s .agreedRow))
@@ -198,18 +202,16 @@ module _ (w : List ℕ) (p : ℕ) (a s : List ℕ) (e : reported w p a s .verdic
   -- at 50 its groups are those that more than half of the runs hold (RULES 5.2)
   pub reported-half : threshold p ≡ 50 → (g : Group)
       → member g (groups (samples w) (reported w p a s .agreedRow)) ≡ ltb (inForce w) (2 * support (samples w) (runs w) g)
-  unfolding isShown
-  reported-half h g = reported-groups g ∙ ap (λ (u : ℕ). isShown u (inForce w) (support n (runs w) g)) h
+  reported-half h g = reported-shown g ∙ ap (λ (u : ℕ). isShown u (inForce w) (support n (runs w) g)) h
       ∙ shown-half (inForce w) (support n (runs w) g) (fits .some)
 
   -- at 100 they are those that all runs hold (RULES 5.9)
   pub reported-whole : threshold p ≡ 100 → (g : Group)
       → In g (groups (samples w) (reported w p a s .agreedRow)) ↔ ((run : Run) → List·Memᴰ run (runs w) → holds (samples w) g (run .row) ≡ true)
-  unfolding isShown
   reported-whole h g = (λ m. support-exactly n (runs w) g .0 (sym is ∙ m), λ f. is ∙ support-exactly n (runs w) g .1 f)
     where
       is : member g (groups n (reported w p a s .agreedRow)) ≡ eqb (support n (runs w) g) (length (runs w))
-      is = reported-groups g ∙ ap (λ (u : ℕ). isShown u (inForce w) (support n (runs w) g)) h
+      is = reported-shown g ∙ ap (λ (u : ℕ). isShown u (inForce w) (support n (runs w) g)) h
           ∙ ap (λ (k : ℕ). isShown 100 k (support n (runs w) g)) (sym (length-runs w))
           ∙ shown-whole (length (runs w)) (support n (runs w) g) (omega (arith, support-most n (runs w) g, total-length (runs w)))
 
@@ -217,9 +219,8 @@ module _ (w : List ℕ) (p : ℕ) (a s : List ℕ) (e : reported w p a s .verdic
 pub reported-fewer : (w : List ℕ) (p q : ℕ) (a s b r : List ℕ) → reported w p a s .verdict ≡ accepted → reported w q b r .verdict ≡ accepted
     → threshold p ≤ threshold q → (g : Group) → In g (groups (samples w) (reported w q b r .agreedRow))
     → In g (groups (samples w) (reported w p a s .agreedRow))
-unfolding isShown
-reported-fewer w p q a s b r e f h g m = reported-groups w p a s e g
-    ∙ shown-fewer (threshold p) (inForce w) (support (samples w) (runs w) g) (threshold q) h (sym (reported-groups w q b r f g) ∙ m)
+reported-fewer w p q a s b r e f h g m = reported-shown w p a s e g
+    ∙ shown-fewer (threshold p) (inForce w) (support (samples w) (runs w) g) (threshold q) h (sym (reported-shown w q b r f g) ∙ m)
 
 -- a single run is its own report, at every threshold (RULES 10.7)
 pub reported-one : (w : List ℕ) (p : ℕ) (a s : List ℕ) (run : Run) → reported w p a s .verdict ≡ accepted → runs w ≡ run ∷ []
@@ -227,8 +228,8 @@ pub reported-one : (w : List ℕ) (p : ℕ) (a s : List ℕ) (run : Run) → rep
 unfolding support weigh
 reported-one w p a s run e q = standard-unique (samples w) (reported w p a s .agreedRow) (run .row) (reported-standard w p a s e)
     (reported-accepts w p a s .0 e .formed .stored run (rw q (List·Memᴰ·head refl)) .standard)
-    (λ x. reported-groups w p a s e x ∙ (rw (← length-runs w, q) (go (holds (samples w) x (run .row)))))
+    (λ x. reported-shown w p a s e x ∙ (rw (← length-runs w, q) (go (holds (samples w) x (run .row)))))
   where
-    go : (b : Bool) → (ltb (threshold p * 1) (100 * (cond b 1 0 + 0)) || eqb (cond b 1 0 + 0) 1) ≡ b
-    go true = or-r (ltb (threshold p * 1) 100) true refl
-    go false = rw (le-ltb (threshold p * 1) 0 (omega arith))
+    go : (b : Bool) → isShown (threshold p) 1 (cond b 1 0 + 0) ≡ b
+    go true = shown-exactly (threshold p) 1 1 .1 (inr refl)
+    go false = not-yes (isShown (threshold p) 1 0) (λ m. absurd (omega (arith, shown-some (threshold p) 1 0 (omega arith) m)))

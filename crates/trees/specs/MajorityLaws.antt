@@ -13,7 +13,7 @@ use Rattle.trees.specs.Groups.{Group, member}
 use Rattle.trees.specs.Rows.{nodes, groupAt, groups, holds}
 use Rattle.trees.specs.Valid.{Standard}
 use Rattle.trees.specs.Reporting.{Run, worth, support, total, held, agreed}
-use Rattle.trees.specs.Thresholds.{leastThreshold}
+use Rattle.trees.specs.Thresholds.{leastThreshold, mostThreshold}
 use Rattle.trees.specs.Majority.{percent, isShown, majority, references}
 use Rattle.trees.specs.BoolLaws.{and-l, and-both, or-cases, or-l, or-r, true-eq}
 use Rattle.trees.specs.ListLaws.{weigh-found, weigh-both, count-every, count-early}
@@ -56,6 +56,15 @@ module _ (t k s : ℕ) where
       go : (b : Bool) → eqb (k - (t * k) / percent) 0 ≡ b → k < s + cond b 1 (k - (t * k) / percent)
       go true q = ⊎-elim (λ x. omega (arith, eqb-true (k - (t * k) / percent) 0 q)) (λ x. omega arith) (shown-exactly .0 e)
       go false q = ⊎-elim (λ x. omega arith) (λ x. omega (arith, eqb-false (k - (t * k) / percent) 0 q)) (shown-exactly .0 e)
+
+-- and none is tried in vain: a group that all of them but the last miss is shown
+pub references-needed : (t k : ℕ) → t ≤ mostThreshold → 0 < k → isShown t k (k + 1 - references t k) ≡ true
+unfolding references
+references-needed t k m h = go (eqb (k - (t * k) / percent) 0) refl
+  where
+    go : (b : Bool) → eqb (k - (t * k) / percent) 0 ≡ b → isShown t k (k + 1 - cond b 1 (k - (t * k) / percent)) ≡ true
+    go true q = shown-exactly t k (k + 1 - 1) .1 (inr (omega arith))
+    go false q = shown-exactly t k (k + 1 - (k - (t * k) / percent)) .1 (inl (omega (arith, mul-le-mul-right k m)))
 
 -- no more runs are tried than there are
 pub references-most : (t k : ℕ) → 0 < k → references t k ≤ k
