@@ -220,7 +220,7 @@ pub reported-fewer : (w : List ℕ) (p q : ℕ) (a s b r : List ℕ) → reporte
     → threshold p ≤ threshold q → (g : Group) → In g (groups (samples w) (reported w q b r .agreedRow))
     → In g (groups (samples w) (reported w p a s .agreedRow))
 reported-fewer w p q a s b r e f h g m = reported-shown w p a s e g
-    ∙ shown-fewer (threshold p) (inForce w) (support (samples w) (runs w) g) (threshold q) h (sym (reported-shown w q b r f g) ∙ m)
+    ∙ shown-fewer (threshold p) (threshold q) (inForce w) (support (samples w) (runs w) g) h (sym (reported-shown w q b r f g) ∙ m)
 
 -- a single run is its own report, at every threshold (RULES 10.7)
 pub reported-one : (w : List ℕ) (p : ℕ) (a s : List ℕ) (run : Run) → reported w p a s .verdict ≡ accepted → runs w ≡ run ∷ []

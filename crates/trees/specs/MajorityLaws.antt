@@ -1,9 +1,9 @@
 -- At a threshold of half or more the majority rule shows a tree, of exactly the groups that it asks for; and few runs need be tried. Assumes nothing.
 use Prim.Native.Nat.{ℕ, _+_, _-_, _*_, _/_, _≤_, _<_}
-use mathlib.Core.Path.{_≡_, refl, sym, ap, _∙_}
+use mathlib.Core.Path.{_≡_, sym, ap, _∙_}
 use mathlib.Core.Logic.{_↔_, _⊎_, inl, inr, ⊎-elim}
 use mathlib.Core.List.{List, List·Memᴰ}
-use mathlib.Core.Bool.{Bool, true, false, _&&_, cond}
+use mathlib.Core.Bool.{true, _&&_}
 use native.Mathlib.Nat.{mul-le-mul-right}
 use native.Mathlib.Omega.{arith}
 use lib.Dec.{eqb, ltb}
@@ -15,7 +15,7 @@ use Rattle.trees.specs.Valid.{Standard}
 use Rattle.trees.specs.Reporting.{Run, worth, support, total, held, agreed}
 use Rattle.trees.specs.Thresholds.{leastThreshold, mostThreshold}
 use Rattle.trees.specs.Majority.{percent, isShown, majority, references}
-use Rattle.trees.specs.BoolLaws.{and-l, and-both, or-cases, or-l, or-r, true-eq}
+use Rattle.trees.specs.BoolLaws.{and-l, and-both, or-cases, or-l, or-r, true-eq, decide}
 use Rattle.trees.specs.ListLaws.{weigh-found, weigh-both, count-every, count-early}
 use Rattle.trees.specs.GroupLaws.{Agree}
 use Rattle.trees.specs.RowLaws.{groups-in}
@@ -23,6 +23,14 @@ use Rattle.trees.specs.NumberingLaws.{row-tree}
 use Rattle.trees.specs.ReportingLaws.{Runs, Holder, in-held, total-length, support-most, support-all, Sound, shown-member, agreed-standard, agreed-groups}
 
 -- ---- by numbers: s of k runs hold a group
+
+-- as many runs are tried as are left of k when tk/100, rounded down, are taken off, and one at least
+pub references-exactly : (t k : ℕ) → ((k ≤ (t * k) / 100) × (references t k ≡ 1)) ⊎ (((t * k) / 100 < k) × (references t k + (t * k) / 100 ≡ k))
+unfolding references
+references-exactly t k = ⊎-elim
+    (λ q. inl (omega (arith, eqb-true (k - (t * k) / percent) 0 q), rw q))
+    (λ q. let h : (t * k) / percent < k = omega (arith, eqb-false (k - (t * k) / percent) 0 q) in inr (h, rw q (omega arith)))
+    (decide (eqb (k - (t * k) / percent) 0))
 
 module _ (t k s : ℕ) where
   -- a group is shown exactly if 100s > tk, or all runs hold it (RULES 5.1)
@@ -32,13 +40,6 @@ module _ (t k s : ℕ) where
     λ e. ⊎-elim (λ q. inl (ltb-true (t * k) (percent * s) q)) (λ q. inr (eqb-true s k q)) (or-cases (ltb (t * k) (percent * s)) (eqb s k) e),
     ⊎-elim (λ h. or-l _ (eqb s k) (lt-ltb (t * k) (percent * s) h)) (λ h. or-r (ltb (t * k) (percent * s)) _ (eq-eqb s k h)),
   )
-
-  -- a greater threshold shows no group more (RULES 5.9)
-  pub shown-fewer : (u : ℕ) → t ≤ u → isShown u k s ≡ true → isShown t k s ≡ true
-  unfolding isShown
-  shown-fewer u h e = ⊎-elim
-      (λ q. or-l _ (eqb s k) (lt-ltb (t * k) (percent * s) (omega (arith, ltb-true (u * k) (percent * s) q, mul-le-mul-right k h))))
-      (λ q. or-r (ltb (t * k) (percent * s)) (eqb s k) q) (or-cases (ltb (u * k) (percent * s)) (eqb s k) e)
 
   -- what is shown is held
   pub shown-some : 0 < k → isShown t k s ≡ true → 1 ≤ s
@@ -50,37 +51,34 @@ module _ (t k s : ℕ) where
 
   -- and fewer runs than are tried miss it
   pub shown-early : 0 < k → s ≤ k → isShown t k s ≡ true → k < s + references t k
-  unfolding references
-  shown-early h l e = go (eqb (k - (t * k) / percent) 0) refl
+  shown-early h l e = go (references-exactly t k) (shown-exactly .0 e)
     where
-      go : (b : Bool) → eqb (k - (t * k) / percent) 0 ≡ b → k < s + cond b 1 (k - (t * k) / percent)
-      go true q = ⊎-elim (λ x. omega (arith, eqb-true (k - (t * k) / percent) 0 q)) (λ x. omega arith) (shown-exactly .0 e)
-      go false q = ⊎-elim (λ x. omega arith) (λ x. omega (arith, eqb-false (k - (t * k) / percent) 0 q)) (shown-exactly .0 e)
+      go : ((k ≤ (t * k) / 100) × (references t k ≡ 1)) ⊎ (((t * k) / 100 < k) × (references t k + (t * k) / 100 ≡ k))
+          → (t * k < 100 * s) ⊎ (s ≡ k) → k < s + references t k
+      go (inl r) (inl x) = omega (arith, r .0, r .1)
+      go (inl r) (inr x) = omega (arith, r .1)
+      go (inr r) (inl x) = omega (arith, r .1)
+      go (inr r) (inr x) = omega (arith, r .0, r .1)
 
--- and none is tried in vain: a group that all of them but the last miss is shown
+-- none is tried in vain: a group that all of them but the last miss is shown
 pub references-needed : (t k : ℕ) → t ≤ mostThreshold → 0 < k → isShown t k (k + 1 - references t k) ≡ true
-unfolding references
-references-needed t k m h = go (eqb (k - (t * k) / percent) 0) refl
-  where
-    go : (b : Bool) → eqb (k - (t * k) / percent) 0 ≡ b → isShown t k (k + 1 - cond b 1 (k - (t * k) / percent)) ≡ true
-    go true q = shown-exactly t k (k + 1 - 1) .1 (inr (omega arith))
-    go false q = shown-exactly t k (k + 1 - (k - (t * k) / percent)) .1 (inl (omega (arith, mul-le-mul-right k m)))
+references-needed t k m h = shown-exactly t k (k + 1 - references t k) .1
+    (⊎-elim (λ r. inr (omega (arith, r .1))) (λ r. inl (omega (arith, r .1, mul-le-mul-right k m))) (references-exactly t k))
 
 -- no more runs are tried than there are
 pub references-most : (t k : ℕ) → 0 < k → references t k ≤ k
-unfolding references
-references-most t k h = go (eqb (k - (t * k) / percent) 0)
-  where
-    go : (b : Bool) → cond b 1 (k - (t * k) / percent) ≤ k
-    go true = h
-    go false = omega arith
+references-most t k h = ⊎-elim (λ r. omega (arith, r .1)) (λ r. omega (arith, r .1)) (references-exactly t k)
+
+-- a greater threshold shows no group more (RULES 5.10)
+pub shown-fewer : (t u k s : ℕ) → t ≤ u → isShown u k s ≡ true → isShown t k s ≡ true
+shown-fewer t u k s h e = shown-exactly t k s .1 (⊎-elim (λ q. inl (omega (arith, mul-le-mul-right k h))) inr (shown-exactly u k s .0 e))
 
 -- at 50 the rule is 2s > k, and half is not enough (RULES 5.2)
 pub shown-half : (k s : ℕ) → 0 < k → isShown 50 k s ≡ ltb k (2 * s)
 shown-half k s h = true-eq _ _ (λ e. lt-ltb k (2 * s) (shown-more 50 k s (omega arith) h e))
     (λ e. shown-exactly 50 k s .1 (inl (omega (arith, ltb-true k (2 * s) e))))
 
--- at 100 it is s = k (RULES 5.10)
+-- at 100 it is s = k (RULES 5.9)
 pub shown-whole : (k s : ℕ) → s ≤ k → isShown 100 k s ≡ eqb s k
 shown-whole k s h = true-eq _ _ (λ e. ⊎-elim (λ q. absurd (omega arith)) (eq-eqb s k) (shown-exactly 100 k s .0 e))
     (λ e. shown-exactly 100 k s .1 (inr (eqb-true s k e)))
