@@ -10,6 +10,7 @@ leastThreshold = 50
 abbrev pub mostThreshold : ℕ
 mostThreshold = 100
 
+-- t lies between them
 abbrev pub InRange : ℕ → Type 0
 InRange t = (leastThreshold ≤ t) × (t ≤ mostThreshold)
 
