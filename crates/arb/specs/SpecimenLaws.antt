@@ -33,7 +33,7 @@ use Rattle.runs.specs.FreshLaws.{Fit, gathered, filled-takes, filled-words}
 use Rattle.runs.specs.ReportLaws.{reported-accepts}
 use Rattle.trees.specs.Case.{agreedRow, supportRow}
 use Rattle.arb.specs.Specimens.{Says, renumbers, nodesGive, RunsGive, leaves, shows, AllSay, nothing, _and_, run, row01, row02}
-use Rattle.arb.specs.Specimens.{caseRuns, bareRow, wholeRow, threeRuns, twoRuns, specimens}
+use Rattle.arb.specs.Specimens.{caseRuns, trivialRow, trivialSupports, threeRuns, twoRuns, specimens}
 
 -- ---- renumbering
 
@@ -145,7 +145,7 @@ two-runs = record {
 }
 
 three-shown : Shows threeRuns 0 agreedRow supportRow × Shows threeRuns 50 agreedRow supportRow × Shows threeRuns 66 agreedRow supportRow
-    × Shows threeRuns 67 bareRow wholeRow × Shows threeRuns 100 bareRow wholeRow
+    × Shows threeRuns 67 trivialRow trivialSupports × Shows threeRuns 100 trivialRow trivialSupports
 unfolding tabulate filter weigh size lowest same listFirst before member nodes parent meets groupAt groups
     enter ordered lastWith parents rowOf support total held shown agreed supportsOf runs threshold isShown
 three-shown = (

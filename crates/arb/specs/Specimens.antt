@@ -64,15 +64,15 @@ row01 = 5 ∷ 4 ∷ 4 ∷ 3 ∷ 65535 ∷ 3 ∷ []
 abbrev pub row02 : List ℕ
 row02 = 5 ∷ 4 ∷ 3 ∷ 4 ∷ 65535 ∷ 3 ∷ []
 
--- the three runs; and the row of five samples without inner groups, with the support row beside it where each of three runs holds the whole
+-- the three runs; and the row of five samples that has trivial groups alone, with its support row where three runs are in force
 abbrev pub caseRuns : List Run
 caseRuns = run 1 row1 ∷ run 2 row2 ∷ run 3 row3 ∷ []
 
-abbrev pub bareRow : List ℕ
-bareRow = 6 ∷ 5 ∷ 5 ∷ 5 ∷ 5 ∷ 5 ∷ 65535 ∷ 0 ∷ 0 ∷ 0 ∷ []
+abbrev pub trivialRow : List ℕ
+trivialRow = 6 ∷ 5 ∷ 5 ∷ 5 ∷ 5 ∷ 5 ∷ 65535 ∷ 0 ∷ 0 ∷ 0 ∷ []
 
-abbrev pub wholeRow : List ℕ
-wholeRow = 3 ∷ 3 ∷ 3 ∷ 3 ∷ 3 ∷ 3 ∷ 3 ∷ 0 ∷ 0 ∷ 0 ∷ []
+abbrev pub trivialSupports : List ℕ
+trivialSupports = 3 ∷ 3 ∷ 3 ∷ 3 ∷ 3 ∷ 3 ∷ 3 ∷ 0 ∷ 0 ∷ 0 ∷ []
 
 -- a study over five samples with the three runs, and one over three samples with two: the header, then a slot for each (RULES 6.1 to 6.3)
 abbrev pub threeRuns : List ℕ
@@ -109,6 +109,6 @@ specimens =
     -- the three runs at other thresholds (RULES 10.11)
     ∷ reports 5 caseRuns threeRuns 50 agreedRow supportRow
     ∷ reports 5 caseRuns threeRuns 66 agreedRow supportRow
-    ∷ reports 5 caseRuns threeRuns 67 bareRow wholeRow
-    ∷ reports 5 caseRuns threeRuns 100 bareRow wholeRow
+    ∷ reports 5 caseRuns threeRuns 67 trivialRow trivialSupports
+    ∷ reports 5 caseRuns threeRuns 100 trivialRow trivialSupports
     ∷ []
