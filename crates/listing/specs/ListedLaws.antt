@@ -16,9 +16,8 @@ use Rattle.trees.specs.Reporting.{agreed, supports}
 use Rattle.trees.specs.Thresholds.{leastThreshold, mostThreshold, threshold}
 use Rattle.trees.specs.BoolLaws.{and-l, and-r, decide}
 use Rattle.trees.specs.ListLaws.{length-zeros}
-use Rattle.trees.specs.ChainLaws.{Passed, Given, here, later, chain-holds, numbers}
-use Rattle.trees.specs.CheckLaws.{outside-not, not-outside}
-use Rattle.trees.specs.ThresholdLaws.{threshold-fits}
+use Rattle.trees.specs.ChainLaws.{Passed, Given, here, later, chain-holds, numbers, line-passes}
+use Rattle.trees.specs.CheckLaws.{outside-not}
 use Rattle.trees.specs.ValidLaws.{accepted-to}
 use Rattle.runs.specs.Runs.{every}
 use Rattle.runs.specs.Words.{inForce}
@@ -28,7 +27,7 @@ use Rattle.runs.specs.Reports.{Report, ruleOf, reported, reportChecks, reportFo
 use Rattle.runs.specs.WordLaws.{length-runs}
 use Rattle.runs.specs.FormedLaws.{formed-from}
 use Rattle.runs.specs.CallLaws.{Kept, opened-kept, opened-none}
-use Rattle.runs.specs.ReportLaws.{reported-rows}
+use Rattle.runs.specs.ReportLaws.{threshold-exactly, reported-rows}
 use Rattle.file.specs.Files.{fileSamples, fileRuns, badFile, slotIdentifier, slotRow}
 use Rattle.file.specs.FileLaws.{Sound, not-bad, sound-good, bad-file}
 use Rattle.listing.specs.Listing.{Listed, refusal, tree, studyWords, unless, firstRefused, slotCall, reports, addsAndReports}
@@ -113,7 +112,7 @@ report-answer n w h =
     rw (formed-from w (h .formed), h .same, length-zeros (rowWords n), eq-eqb (rowWords n) (rowWords n) refl, fits) (go (eqb (inForce w) 0))
   where
     fits : outside leastThreshold mostThreshold (threshold 0) ≡ false
-    fits = not-outside leastThreshold mostThreshold (threshold 0) (threshold-fits .0) (threshold-fits .1)
+    fits = line-passes 16 _ (threshold-exactly 0 .1 (inl refl))
 
     go : (b : Bool) → orElse 14 (cond b (at 0) nowhere) accepted ≡ cond b (refused 14 0) accepted
     go true = refl

@@ -160,7 +160,7 @@ module _ (w : List ℕ) (p : ℕ) (a s : List ℕ) (e : reported w p a s .verdic
       ≡ isShown (threshold p) (inForce w) (support (samples w) (runs w) g)
   reported-shown g = rw (row, ← length-runs w) (majority-groups t n (runs w) some (fits .inRange .0) ok g)
 
-  -- that is, if 100 times its support is greater than the threshold times k, or its support is k (RULES 5.1)
+  -- the same with the rule written out: 100s > tk, or s = k (RULES 5.1)
   pub reported-groups : (g : Group) → member g (groups (samples w) (reported w p a s .agreedRow))
       ≡ (ltb (threshold p * inForce w) (100 * support (samples w) (runs w) g) || eqb (support (samples w) (runs w) g) (inForce w))
   unfolding isShown
@@ -179,7 +179,7 @@ module _ (w : List ℕ) (p : ℕ) (a s : List ℕ) (e : reported w p a s .verdic
       → getD (reported w p a s .supportRow) (suc v) 0 ≡ support (samples w) (runs w) (groupAt (samples w) (reported w p a s .agreedRow) v)
   reported-support v h = rw (words, row) (supports-node n (runs w) shownRow v (rw row at h))
 
-  -- 100 times it is greater than the threshold times k, or it is k; so it lies above k/2, and is k at most (RULES 5.6)
+  -- the rule holds of it; so it lies above k/2, and is k at most (RULES 5.6)
   pub reported-bounds : (v : ℕ) → v < nodes (reported w p a s .agreedRow)
       → ((threshold p * inForce w < 100 * getD (reported w p a s .supportRow) (suc v) 0) ⊎ (getD (reported w p a s .supportRow) (suc v) 0 ≡ inForce w))
       × (inForce w < 2 * getD (reported w p a s .supportRow) (suc v) 0) × (getD (reported w p a s .supportRow) (suc v) 0 ≤ inForce w)

@@ -10,7 +10,7 @@ use lib.Dec.{eqb, ltb}
 use lib.ListN.{length, getD, take, drop, take-append-drop, length-drop, length-replicate}
 use borrow.Author.Tests.{ltb-true, ltb-false, eqb-true, eqb-false, eq-eqb, ne-eqb, not-true, not-false}
 use Rattle.trees.specs.Lists.{tabulate, zeros, range, Place, nowhere, at, first, weigh, count}
-use Rattle.trees.specs.BoolLaws.{and-l, and-r, or-cases, or-r, not-yes, decide}
+use Rattle.trees.specs.BoolLaws.{and-l, and-r, and-both, and-false, or-cases, or-r, not-yes, decide}
 
 -- ---- tables
 
@@ -271,14 +271,18 @@ module _ {A : Type 0} where
   pub count-le-length : (t : A → Bool) (xs : List A) → count t xs ≤ length xs
   count-le-length t xs = omega (arith, weigh-mono (λ x. 1) t (λ x. true) xs (λ x m e. refl), count-all (λ x. true) xs (λ x m. refl))
 
+  -- where one test is under another and no less is counted, the other is under it
+  pub count-tight : (p q : A → Bool) (xs : List A) → ((x : A) → List·Memᴰ x xs → p x ≡ true → q x ≡ true) → count q xs ≤ count p xs → (x : A)
+      → List·Memᴰ x xs → q x ≡ true → p x ≡ true
+  count-tight p q xs h e x m f = not-false (p x) (not-yes _ (λ k. absurd (omega (
+    arith,
+    weigh-one (λ y. 1) (λ y. q y && not (p y)) xs x m (and-both (q x) (not (p x)) f k),
+    weigh-apart (λ y. 1) p (λ y. q y && not (p y)) q xs (λ y i a. (h y i a, rw a (and-false (q y)))) (λ y i a. and-l (q y) (not (p y)) a),
+  ))))
+
   -- as many pass as there are: each does
   pub count-every : (t : A → Bool) (xs : List A) → count t xs ≡ length xs → (x : A) → List·Memᴰ x xs → t x ≡ true
-  count-every t xs e x m = not-false (t x) (not-yes _ (λ q. absurd (omega (
-    arith,
-    weigh-one (λ y. 1) (λ y. not (t y)) xs x m q,
-    weigh-apart (λ y. 1) t (λ y. not (t y)) (λ y. true) xs (λ y i f. (refl, ap not f)) (λ y i f. refl),
-    count-all (λ y. true) xs (λ y i. refl),
-  ))))
+  count-every t xs e x m = count-tight t (λ y. true) xs (λ y i f. refl) (omega (arith, count-all (λ y. true) xs (λ y i. refl))) x m refl
 
   -- some pass, and fewer than h do not: one of the first h passes
   pub count-early : (t : A → Bool) (xs : List A) (h : ℕ) → 1 ≤ count t xs → length xs < count t xs + h → (x : A) × List·Memᴰ x (take h xs) × (t x ≡ true)
@@ -299,21 +303,6 @@ count-two t xs a b m k d e f = omega (
       (λ x i q. let l : x ≡ a = eqb-true x a q in (rw l e, ne-eqb x b (λ r. d (sym l ∙ r))))
       (λ x i q. rw (eqb-true x b q) f),
 )
-
--- where one test is under another and no less is counted, the other is under it
-pub count-tight : (p q : ℕ → Bool) (xs : List ℕ) → ((x : ℕ) → List·Memᴰ x xs → p x ≡ true → q x ≡ true) → count q xs ≤ count p xs → (x : ℕ)
-    → List·Memᴰ x xs → q x ≡ true → p x ≡ true
-count-tight p q xs h e x m f = go (decide (p x))
-  where
-    go : (p x ≡ true) ⊎ (p x ≡ false) → p x ≡ true
-    go (inl k) = k
-    go (inr k) = absurd (omega (
-      arith,
-      weigh-one (λ u. 1) (λ u. eqb u x) xs x m (eq-eqb x x refl),
-      weigh-apart (λ u. 1) p (λ u. eqb u x) q xs
-          (λ y i a. (h y i a, ne-eqb y x (λ r. false≢true (sym k ∙ ap p (sym r) ∙ a))))
-          (λ y i a. rw (eqb-true y x a) f),
-    ))
 
 once : (m s c : ℕ) → count (λ u. eqb u c) (tabulate m (λ u. u) s) ≤ 1
 unfolding weigh tabulate
