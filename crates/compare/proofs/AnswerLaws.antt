@@ -12,15 +12,6 @@ use Rattle.judge.specs.declared.Answer.{Answer}
 use Rattle.judge.specs.declared.Answer.the-variants.{Accepted, Refused}
 use Rattle.judge.specs.Verdicts.{verdict}
 
--- ---- a chain that refuses or accepts does so whatever comes after it
-
-module _ (a : Answer) (cs : List Check) (e : verdict a ≡ cs ⊳ accepted) (v : Verdict) where
-  pub refuses : (k p : ℕ) → a ≡ Refused k p → cs ⊳ v ≡ refused k p
-  refuses k p q = given-chain cs v k p (chain-given cs accepted k p (accepted-other k p) (sym e ∙ ap verdict q))
-
-  pub accepts : a ≡ Accepted → cs ⊳ v ≡ v
-  accepts q = passed-chain cs v (chain-passed cs (sym e ∙ ap verdict q))
-
 -- ---- the second row's checks
 
 -- what a row is answered by itself, with the place moved, is the answer of the second row's checks

@@ -16,9 +16,9 @@ ghost use Rattle.trees.specs.RowCalls.{moved, compareChecks, comparing};
 ghost use Rattle.judge.specs.Verdicts.{verdict};
 ghost use Rattle.compare.specs.Comparisons.{comparison};
 use judge::Answer;
-use judge::check_row;
 use passes::TABLE;
 use passes::Table;
+use quick::check_row;
 use row::check_first;
 use row::renumber_valid;
 

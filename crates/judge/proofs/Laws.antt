@@ -1,14 +1,16 @@
 -- How an answer passes along a chain of checks, and what the later checks know from an acceptance. Assumes nothing.
 use Prim.Native.Nat.{ℕ, _+_, _-_, _≤_, _<_}
 use mathlib.Core.Path.{_≡_, sym, ap, _∙_}
-use mathlib.Core.List.{List, _∷_}
+use mathlib.Core.List.{List, [], _∷_}
 use native.Mathlib.Omega.{arith}
 use lib.ListN.{length}
 use borrow.Author.Tests.{eqb-true, not-false}
 use Rattle.trees.specs.Lists.{nowhere}
 use Rattle.trees.specs.Rows.{nodes}
-use Rattle.trees.specs.Checks.{accepted, Check, _⊳_, asked, fewestSamples, mostSamples, rowWords, check1, check3, check5, check6}
-use Rattle.trees.specs.ChainLaws.{chain-stop, chain-go, asked-passes, line-passes}
+use Rattle.trees.specs.Checks.{Verdict, accepted, refused, Check, _⊳_, asked, fewestSamples, mostSamples, rowWords}
+use Rattle.trees.specs.Checks.{check1, check3, check5, check9, check10, wordChecks, treeChecks, rowChecks}
+use Rattle.trees.specs.ChainLaws.{chain-append, chain-stop, chain-go, passed-chain, chain-passed, chain-given, given-chain}
+use Rattle.trees.specs.ChainLaws.{asked-passes, accepted-other, line-passes}
 use Rattle.trees.specs.WayLaws.{Closed}
 use Rattle.trees.specs.CheckLaws.{outside-not, check6-closed}
 use Rattle.judge.specs.declared.Answer.{Answer}
@@ -23,6 +25,14 @@ module _ (r : Answer) (c : Check) (e : verdict r ≡ asked c) where
 
   pub goes : (cs : List Check) → r ≡ Accepted → cs ⊳ accepted ≡ (c ∷ cs) ⊳ accepted
   goes cs q = sym (chain-go c cs accepted (sym e ∙ ap verdict q))
+
+-- a list of checks that refuses or accepts does so whatever comes after it
+module _ (a : Answer) (cs : List Check) (e : verdict a ≡ cs ⊳ accepted) (v : Verdict) where
+  pub refuses : (k p : ℕ) → a ≡ Refused k p → cs ⊳ v ≡ refused k p
+  refuses k p q = given-chain cs v k p (chain-given cs accepted k p (accepted-other k p) (sym e ∙ ap verdict q))
+
+  pub accepts : a ≡ Accepted → cs ⊳ v ≡ v
+  accepts q = passed-chain cs v (chain-passed cs (sym e ∙ ap verdict q))
 
 -- ---- what the later checks know from an acceptance
 
@@ -46,5 +56,35 @@ module _ (n : ℕ) (row : List ℕ) (r : Answer) where
   pub passed5 : verdict r ≡ asked (check5 n row) → r ≡ Accepted → fewestSamples ≤ n → length row ≡ rowWords n → nodes row < length row
   passed5 e q h l = omega (arith, outside-not (n + 1) (rowWords n - 1) (nodes row) (line-passes 5 _ (passes r (check5 n row) e q)))
 
-  pub passed6 : verdict r ≡ asked (check6 n row) → r ≡ Accepted → Closed (nodes row) row
-  passed6 e q = check6-closed n row (passes r (check6 n row) e q)
+-- ---- the checks of a row: 5 to 8, then 9 and 10 in either form
+
+module _ (n : ℕ) (row : List ℕ) (a : Answer) (e : verdict a ≡ wordChecks n row ⊳ accepted) where
+  words-before : rowChecks n row ⊳ accepted ≡ wordChecks n row ⊳ (treeChecks n row ⊳ accepted)
+  unfolding rowChecks
+  words-before = chain-append (wordChecks n row) (treeChecks n row) accepted
+
+  pub words-stop : (k p : ℕ) → a ≡ Refused k p → verdict a ≡ rowChecks n row ⊳ accepted
+  words-stop k p q = ap verdict q ∙ sym (words-before ∙ refuses a (wordChecks n row) e (treeChecks n row ⊳ accepted) k p q)
+
+  module _ (q : a ≡ Accepted) where
+    -- a row that passes 5 to 8 has its nodes within its words, and parents among its nodes
+    pub words-nodes : fewestSamples ≤ n → length row ≡ rowWords n → nodes row < length row
+    words-nodes h l = omega (
+      arith,
+      outside-not (n + 1) (rowWords n - 1) (nodes row) (line-passes 5 _ (chain-passed (wordChecks n row) (sym e ∙ ap verdict q) .0)),
+    )
+
+    pub words-closed : Closed (nodes row) row
+    words-closed = check6-closed n row (chain-passed (wordChecks n row) (sym e ∙ ap verdict q) .1 .0)
+
+    tree-left : treeChecks n row ⊳ accepted ≡ rowChecks n row ⊳ accepted
+    tree-left = sym (words-before ∙ accepts a (wordChecks n row) e (treeChecks n row ⊳ accepted) q)
+
+    module _ (b : Answer) (f : verdict b ≡ asked (check9 n row)) where
+      pub climbing-stop : (k p : ℕ) → b ≡ Refused k p → verdict b ≡ rowChecks n row ⊳ accepted
+      climbing-stop k p x = stops b (check9 n row) f (check10 n row ∷ []) k p x ∙ tree-left
+
+      -- check 10 is the last
+      pub branching-last : b ≡ Accepted → asked (check10 n row) ≡ rowChecks n row ⊳ accepted
+      unfolding _⊳_
+      branching-last x = goes b (check9 n row) f (check10 n row ∷ []) x ∙ tree-left

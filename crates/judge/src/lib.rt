@@ -1,11 +1,11 @@
-// Judging a row: checks 1, 3 and 5 to 10 (RULES 7.5), each a function, and their order.
+// Judging a row: checks 1, 3 and 5 to 10 (RULES 7.5), each a function, and their order; with no table (RULES 13.5).
 ghost use mathlib.Core.Path.{_≡_};
 ghost use Prim.Native.Nat.{ℕ, _+_, _<_, _≤_};
 ghost use lib.ListN.{length};
 ghost use Rattle.trees.specs.Lists.{range, count};
 ghost use Rattle.trees.specs.Rows.{nodes, parent, childOf, ends};
 ghost use Rattle.trees.specs.Checks.{accepted, _⊳_, asked, line, stray, fewestSamples, mostSamples, rowWords};
-ghost use Rattle.trees.specs.Checks.{check1, check3, check5, check6, check7, check8, check9, check10, rowChecks, judged};
+ghost use Rattle.trees.specs.Checks.{check1, check3, check5, check6, check7, check8, check9, check10, wordChecks, rowChecks, judged};
 ghost use Rattle.trees.specs.RowCalls.{check3Both};
 ghost use Rattle.trees.specs.WayLaws.{Closed};
 ghost use Rattle.judge.specs.Verdicts.{verdict};
@@ -60,7 +60,7 @@ pub const MOST_SAMPLES: usize = 512;
 pub const ROOT_MARK: usize = 65535;
 
 // The children that an inner node has at least (check 10, RULES 7.5).
-const FEWEST_CHILDREN: usize = 2;
+pub const FEWEST_CHILDREN: usize = 2;
 
 // A word as a count or an index.
 pub fn wide(x: u16) -> usize
@@ -213,6 +213,7 @@ fn ends(row: &[u16], v: usize) -> bool
 }
 
 // Check 9: the lowest node whose way up never comes to the root (RULES 7.5).
+// For judging, which keeps no table: each node is climbed from anew. The other calls use the form of `quick`.
 fn climbing(row: &[u16]) -> Answer
     requires { ⌜ (nodes (now row) < length (now row)) × Closed (nodes (now row)) (now row) ⌝ }
     ensures { λ r. ⌜ ((n : ℕ) → verdict r ≡ asked (check9 n (now (row .entry)))) ⌝ }
@@ -229,6 +230,7 @@ fn climbing(row: &[u16]) -> Answer
 }
 
 // Check 10: the lowest inner node with one child or none (RULES 7.5).
+// For judging, which keeps no table: the row is scanned for each inner node. The other calls use the form of `quick`.
 fn branching(n: usize, row: &[u16]) -> Answer
     requires { ⌜ nodes (now row) < length (now row) ⌝ }
     ensures { λ r. ⌜ verdict r ≡ asked (check10 n (now (row .entry))) ⌝ }
@@ -244,10 +246,10 @@ fn branching(n: usize, row: &[u16]) -> Answer
     Answer::Accepted
 }
 
-// Checks 5 to 10, of a row of the right length for n: the first that applies is the answer (RULES 7.2).
-pub fn check_row(n: usize, row: &[u16]) -> Answer
+// Checks 5 to 8, of a row of the right length for n: the first that applies is the answer (RULES 7.2).
+pub fn check_words(n: usize, row: &[u16]) -> Answer
     requires { ⌜ (fewestSamples ≤ n) × (n ≤ mostSamples) × (length (now row) ≡ rowWords n) ⌝ }
-    ensures { λ r. ⌜ verdict r ≡ rowChecks n (now (row .entry)) ⊳ accepted ⌝ }
+    ensures { λ r. ⌜ verdict r ≡ wordChecks n (now (row .entry)) ⊳ accepted ⌝ }
 {
     let a = nodes_in_range(n, row);
     let Answer::Accepted = a else {
@@ -261,7 +263,16 @@ pub fn check_row(n: usize, row: &[u16]) -> Answer
     let Answer::Accepted = a else {
         return a;
     };
-    let a = filler(n, row);
+    filler(n, row)
+}
+
+// Checks 5 to 10, of a row of the right length for n: the first that applies is the answer (RULES 7.2).
+// For judging, which keeps no table. The other calls use the form of `quick`.
+fn check_row(n: usize, row: &[u16]) -> Answer
+    requires { ⌜ (fewestSamples ≤ n) × (n ≤ mostSamples) × (length (now row) ≡ rowWords n) ⌝ }
+    ensures { λ r. ⌜ verdict r ≡ rowChecks n (now (row .entry)) ⊳ accepted ⌝ }
+{
+    let a = check_words(n, row);
     let Answer::Accepted = a else {
         return a;
     };

@@ -18,7 +18,7 @@ pub fn check_first(n: usize, first: &[u16], second: &[u16]) -> Answer
     let Answer::Accepted = a else {
         return a;
     };
-    judge::check_row(n, first)
+    quick::check_row(n, first)
 }
 
 // Renumbering: a refusal that leaves `out` as it was, or the row in standard numbering.

@@ -2,8 +2,8 @@
 use crate::form::well_formed;
 use judge::Answer;
 use judge::Refusal;
-use judge::check_row;
 use judge::line;
+use quick::check_row;
 use slots::Header;
 use slots::Spot;
 use slots::is_full;

@@ -1,6 +1,6 @@
 -- What a row is judged by: checks 1, 3 and 5 to 10 (RULES 7.5), and their order.
 use Prim.Native.Nat.{ℕ, _+_, _-_, _*_}
-use mathlib.Core.List.{List, [], _∷_}
+use mathlib.Core.List.{List, [], _∷_, _++_}
 use mathlib.Core.Bool.{Bool, _&&_, _||_, not, cond}
 use lib.Dec.{eqb, ltb, leb}
 use lib.ListN.{length, getD}
@@ -100,9 +100,17 @@ children r v = count (childOf r v) (range 0 (nodes r))
 abbrev pub check10 : ℕ → List ℕ → Check
 check10 n r = lineAt 10 (λ v. ltb (children r v) 2) (range n (nodes r))
 
+-- checks 5 to 8, by rising number (RULES 7.2): they look at the words one by one
+abbrev pub wordChecks : ℕ → List ℕ → List Check
+wordChecks n r = check5 n r ∷ check6 n r ∷ check7 n r ∷ check8 n r ∷ []
+
+-- checks 9 and 10, by rising number (RULES 7.2): they look at the tree
+abbrev pub treeChecks : ℕ → List ℕ → List Check
+treeChecks n r = check9 n r ∷ check10 n r ∷ []
+
 -- checks 5 to 10, by rising number (RULES 7.2)
 unfoldable pub rowChecks : ℕ → List ℕ → List Check
-rowChecks n r = check5 n r ∷ check6 n r ∷ check7 n r ∷ check8 n r ∷ check9 n r ∷ check10 n r ∷ []
+rowChecks n r = wordChecks n r ++ treeChecks n r
 
 -- the checks of judging a row (RULES 7.2)
 unfoldable pub judgeChecks : ℕ → List ℕ → List Check

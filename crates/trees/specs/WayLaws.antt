@@ -202,3 +202,7 @@ module _ (r : List ℕ) (m : ℕ) (closed : Closed m r) where
       more : (k : ℕ) → ends (k + f) r v ≡ true
       more zero = rw zero-add e
       more (suc k) = rw suc-add (ends-more r (k + f) v (more k))
+
+  -- a node's way up ends exactly if its parent's does
+  pub ends-step : (v : ℕ) → v < m → childOf r rootMark v ≡ false → ends m r (parent r v) ≡ ends m r v
+  ends-step v h e = true-eq _ _ (λ q. ends-enough (suc m) v h (ends-up r m v e ∙ q)) (λ q. sym (ends-up r m v e) ∙ ends-more r m v q)

@@ -2,7 +2,8 @@
 use mathlib.Core.Path.{sym, _∙_}
 use denote.Ref.{now}
 use Rattle.trees.specs.RowCalls.{comparing}
-use Rattle.compare.proofs.AnswerLaws.{refuses, accepts, both-valid}
+use Rattle.judge.proofs.Laws.{refuses, accepts}
+use Rattle.compare.proofs.AnswerLaws.{both-valid}
 use borrow.Author.Needs.{needs}
 use Rattle.compare.proofs.compare.Statement.{statement}
 use Rattle.compare.proofs.compare.Tie as tie

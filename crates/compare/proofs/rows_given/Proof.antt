@@ -3,8 +3,9 @@ use mathlib.Core.Path.{sym, ap, _∙_}
 use denote.Ref.{now}
 use Rattle.trees.specs.Checks.{accepted}
 use Rattle.judge.specs.Verdicts.{verdict}
+use Rattle.judge.proofs.Laws.{refuses, accepts}
 use Rattle.row.proofs.AnswerLaws.{both-given}
-use Rattle.compare.proofs.AnswerLaws.{refuses, accepts, checks-split}
+use Rattle.compare.proofs.AnswerLaws.{checks-split}
 use borrow.Author.Needs.{needs}
 use Rattle.compare.proofs.rows_given.Statement.{statement}
 use Rattle.compare.proofs.rows_given.Tie as tie

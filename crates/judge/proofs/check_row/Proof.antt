@@ -1,43 +1,12 @@
 -- `judge::check_row` answers the chain of checks 5 to 10. Assumes nothing.
-use Prim.Native.Nat.{ℕ}
-use mathlib.Core.Path.{_≡_, _∙_}
-use denote.Ref.{now}
-use lib.ListN.{drop}
-use Rattle.trees.specs.Checks.{accepted, _⊳_, rowChecks}
-use Rattle.judge.proofs.Laws.{stops, goes, passed5, passed6}
+use mathlib.Core.Path.{_∙_}
+use Rattle.judge.proofs.Laws.{words-stop, words-nodes, words-closed, climbing-stop, branching-last}
 use borrow.Author.Needs.{needs}
 use Rattle.judge.proofs.check_row.Statement.{statement}
 use Rattle.judge.proofs.check_row.Tie as tie
 
--- what is left after the first k checks decides
-abbrev Left : ℕ → tie.After-enum-told → Type 0
-Left k c =
-    let start = c .before .before .before .before in
-    let checks = rowChecks (start .args .n) (now (start .args .row)) in
-    drop k checks ⊳ accepted ≡ checks ⊳ accepted
-
-left6 : (c : tie.After-enum-told) → Left 1 c
-unfolding rowChecks
-left6 c = goes _ _ (c .before .before .nodes-in-range .ensures) _ (c .enum-told .given .1)
-
-left7 : (c : tie.After-enum-told3) → Left 2 (c .before .before .before)
-unfolding rowChecks
-left7 c = goes _ _ (c .before .before .parents .ensures) _ (c .enum-told3 .given .1) ∙ left6 (c .before .before .before)
-
-left8 : (c : tie.After-enum-told5) → Left 3 (c .before .before .before .before .before .before)
-unfolding rowChecks
-left8 c = goes _ _ (c .before .before .roots .ensures) _ (c .enum-told5 .given .1) ∙ left7 (c .before .before .before)
-
-left9 : (c : tie.After-enum-told7) → Left 4 (c .before .before .before .before .before .before .before .before .before)
-unfolding rowChecks
-left9 c = goes _ _ (c .before .before .filler .ensures) _ (c .enum-told7 .given .1) ∙ left8 (c .before .before .before)
-
-left10 : (c : tie.After-enum-told9) → Left 5 (c .before .before .before .before .before .before .before .before .before .before .before .before)
-unfolding rowChecks
-left10 c = goes _ _ (c .before .before .climbing .ensures 0) _ (c .enum-told9 .given .1) ∙ left9 (c .before .before .before)
-
-nodes-in-range-requires : tie.Need-nodes-in-range-requires
-nodes-in-range-requires c κs = search needs
+check-words-requires : tie.Need-check-words-requires
+check-words-requires c κs = search needs
 
 enum-told : tie.Need-enum-told
 enum-told c = search needs
@@ -46,11 +15,10 @@ enum-told-2 : tie.Need-enum-told-2
 enum-told-2 c = search needs
 
 returns : tie.Need-returns
-unfolding rowChecks
-returns c = stops _ _ (c .before .before .nodes-in-range .ensures) _ _ _ (c .enum-told2 .given .1)
+returns c = words-stop _ _ _ (c .before .before .check-words .ensures) _ _ (c .enum-told2 .given .1)
 
-parents-requires : tie.Need-parents-requires
-parents-requires c κs = search passed5
+climbing-requires : tie.Need-climbing-requires
+climbing-requires c κs = search (words-nodes, words-closed)
 
 enum-told-3 : tie.Need-enum-told-3
 enum-told-3 c = search needs
@@ -59,78 +27,33 @@ enum-told-4 : tie.Need-enum-told-4
 enum-told-4 c = search needs
 
 returns-2 : tie.Need-returns-2
-unfolding rowChecks
-returns-2 c = stops _ _ (c .before .before .parents .ensures) _ _ _ (c .enum-told4 .given .1) ∙ left6 (c .before .before .before)
-
-roots-requires : tie.Need-roots-requires
-roots-requires c κs = search passed5
-
-enum-told-5 : tie.Need-enum-told-5
-enum-told-5 c = search needs
-
-enum-told-6 : tie.Need-enum-told-6
-enum-told-6 c = search needs
-
-returns-3 : tie.Need-returns-3
-unfolding rowChecks
-returns-3 c = stops _ _ (c .before .before .roots .ensures) _ _ _ (c .enum-told6 .given .1) ∙ left7 (c .before .before .before)
-
-filler-requires : tie.Need-filler-requires
-filler-requires c κs = search passed5
-
-enum-told-7 : tie.Need-enum-told-7
-enum-told-7 c = search needs
-
-enum-told-8 : tie.Need-enum-told-8
-enum-told-8 c = search needs
-
-returns-4 : tie.Need-returns-4
-unfolding rowChecks
-returns-4 c = stops _ _ (c .before .before .filler .ensures) _ _ _ (c .enum-told8 .given .1) ∙ left8 (c .before .before .before)
-
-climbing-requires : tie.Need-climbing-requires
-climbing-requires c κs = search (passed5, passed6)
-
-enum-told-9 : tie.Need-enum-told-9
-enum-told-9 c = search needs
-
-enum-told-10 : tie.Need-enum-told-10
-enum-told-10 c = search needs
-
-returns-5 : tie.Need-returns-5
-unfolding rowChecks
-returns-5 c = stops _ _ (c .before .before .climbing .ensures 0) _ _ _ (c .enum-told10 .given .1) ∙ left9 (c .before .before .before)
+returns-2 c =
+    let words-passed = c .before .before .before in
+    climbing-stop _ _ _ (words-passed .before .before .check-words .ensures) (words-passed .enum-told .given .1)
+    _ (c .before .before .climbing .ensures 0) _ _ (c .enum-told4 .given .1)
 
 branching-requires : tie.Need-branching-requires
-branching-requires c κs = search passed5
+branching-requires c κs = search words-nodes
 
-returns-6 : tie.Need-returns-6
-unfolding rowChecks _⊳_
-returns-6 c = c .branching .ensures ∙ left10 (c .before)
+returns-3 : tie.Need-returns-3
+returns-3 c =
+    let climbing-passed = c .before in
+    let words-passed = climbing-passed .before .before .before in
+    c .branching .ensures
+    ∙ branching-last _ _ _ (words-passed .before .before .check-words .ensures) (words-passed .enum-told .given .1)
+    _ (climbing-passed .before .before .climbing .ensures 0) (climbing-passed .enum-told3 .given .1)
 
 pub check-row-spec : {M : Type 1} → statement M
 check-row-spec =
     tie.close
     (tie.spec
-    nodes-in-range-requires
+    check-words-requires
     enum-told
     enum-told-2
     returns
-    parents-requires
+    climbing-requires
     enum-told-3
     enum-told-4
     returns-2
-    roots-requires
-    enum-told-5
-    enum-told-6
-    returns-3
-    filler-requires
-    enum-told-7
-    enum-told-8
-    returns-4
-    climbing-requires
-    enum-told-9
-    enum-told-10
-    returns-5
     branching-requires
-    returns-6)
+    returns-3)

@@ -1,0 +1,4 @@
+pub mod Marking
+pub mod MarkingLaws
+pub mod Tallies
+pub mod TallyLaws
