@@ -2,14 +2,14 @@
 use Prim.Native.Nat.{ℕ}
 use mathlib.Core.Path.{_≡_, sym, ap, _∙_}
 use mathlib.Core.List.{List, map}
-use Rattle.trees.specs.Checks.{Verdict, accepted, refused, Check, _⊳_, rowWords, rowChecks}
+use Rattle.trees.specs.Checks.{Verdict, accepted, Check, _⊳_, rowWords, rowChecks}
 use Rattle.trees.specs.Valid.{Valid}
 use Rattle.trees.specs.Comparing.{compared}
 use Rattle.trees.specs.RowCalls.{moved, renumberChecks, compareChecks, comparing}
-use Rattle.trees.specs.ChainLaws.{chain-append, chain-passed, passed-chain, chain-given, given-chain, accepted-other}
+use Rattle.trees.specs.ChainLaws.{chain-append, chain-passed, passed-chain}
 use Rattle.trees.specs.RowCallLaws.{movedVerdict, chain-moved, comparing-accepts}
 use Rattle.judge.specs.declared.Answer.{Answer}
-use Rattle.judge.specs.declared.Answer.the-variants.{Accepted, Refused}
+use Rattle.judge.specs.declared.Answer.the-variants.{Accepted}
 use Rattle.judge.specs.Verdicts.{verdict}
 
 -- ---- the second row's checks

@@ -1,18 +1,17 @@
 -- A tally word by word, and that of the parents of a row. Assumes nothing.
-use Prim.Native.Nat.{ℕ, zero, suc, _+_, _-_, _≤_, _<_, zero-le}
-use mathlib.Core.Path.{_≡_, refl, sym, ap, _∙_}
+use Prim.Native.Nat.{ℕ, _+_, _-_, _≤_, _<_}
+use mathlib.Core.Path.{_≡_, sym, _∙_}
 use mathlib.Core.Logic.{⊎-elim}
 use mathlib.Core.List.{List}
-use mathlib.Core.Bool.{Bool, true, false, cond}
 use native.Mathlib.Nat.{sub-zero}
 use native.Mathlib.Omega.{arith}
 use lib.Dec.{eqb}
-use lib.ListN.{length, getD, set, length-set}
+use lib.ListN.{getD, set, length-set}
 use lib.Seq.{getD-set-same, getD-set-other}
 use borrow.Author.Tests.{eqb-true, eqb-false, eq-eqb, ne-eqb}
-use Rattle.trees.specs.ListLaws.{length-zeros, getD-zeros}
-use Rattle.trees.specs.Lists.{zeros, tabulate, range, weigh, count}
-use Rattle.trees.specs.Rows.{nodes, parent, childOf}
+use Rattle.trees.specs.ListLaws.{length-zeros, getD-zeros, count-shift}
+use Rattle.trees.specs.Lists.{zeros, count}
+use Rattle.trees.specs.Rows.{nodes, parent}
 use Rattle.trees.specs.Checks.{children}
 use Rattle.trees.specs.Tables.{Tabled, tableWords}
 use Rattle.trees.specs.BoolLaws.{decide}
@@ -53,11 +52,6 @@ module _ (ws : List ℕ) (a b : ℕ) where
     tally-end h = record { is = λ z i k. count-end (so-far .counted z k) h }
 
 -- ---- the words of a row after the first are the parents
-
-count-shift : (t : ℕ → Bool) (m s : ℕ) → count t (tabulate m (λ u. u) (suc s)) ≡ count (λ u. t (suc u)) (tabulate m (λ u. u) s)
-unfolding weigh tabulate
-count-shift t zero s = refl
-count-shift t (suc m) s = rw (count-shift t m (suc s))
 
 standing-children : (r : List ℕ) (z : ℕ) → standing r 1 (nodes r + 1) z ≡ children r z
 unfolding parent

@@ -4,6 +4,7 @@ ghost use Prim.Native.Nat.{_≤_};
 ghost use lib.ListN.{length};
 ghost use Rattle.trees.specs.Checks.{accepted, _⊳_, fewestSamples, mostSamples, rowWords, rowChecks};
 ghost use Rattle.judge.specs.Verdicts.{verdict};
+
 mod branching;
 mod climbing;
 mod tally;

@@ -333,3 +333,9 @@ count-beside t a b c h =
     split : (p q : Bool) → p ≡ true → p && not q || q ≡ true
     split p true e = or-r (p && false) true refl
     split p false e = rw e
+
+-- a stretch that begins one later
+pub count-shift : (t : ℕ → Bool) (m s : ℕ) → count t (tabulate m (λ u. u) (suc s)) ≡ count (λ u. t (suc u)) (tabulate m (λ u. u) s)
+unfolding weigh tabulate
+count-shift t zero s = refl
+count-shift t (suc m) s = rw (count-shift t m (suc s))

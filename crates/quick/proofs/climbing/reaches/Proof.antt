@@ -1,4 +1,4 @@
--- `quick::climbing::reaches` follows the parents: at each step the way that is left ends exactly if the whole way does, in the steps left and at all. Assumes nothing.
+-- `quick::climbing::reaches` follows the parents: the way that is left ends exactly if the whole way does, in the steps left and at all. Assumes nothing.
 use Prim.Native.Nat.{_<_}
 use mathlib.Core.Path.{_≡_, refl, sym, _∙_}
 use native.Mathlib.Omega.{arith}
@@ -6,7 +6,6 @@ use Rattle.trees.specs.Rows.{nodes, parent, ends}
 use borrow.Author.Tests.{eq-eqb, ne-eqb}
 use Rattle.trees.specs.ScanLaws.{ends-root, ends-parent}
 use Rattle.trees.specs.WayLaws.{ends-none, ends-step}
-
 use borrow.Author.Needs.{needs}
 use Rattle.quick.proofs.climbing.reaches.Statement.{statement}
 use Rattle.quick.proofs.climbing.reaches.Tie as tie
