@@ -20,5 +20,4 @@ standing ws a b z = count (isWord ws z) (range a b)
 -- the words from a to below u are counted, each at its own entry
 pub record Tallying (ws : List ℕ) (a b u : ℕ) (t : List ℕ) : Type 0 where
   pub words : length t ≡ tableWords
-  pub high : u ≤ b
   pub counted : (z : ℕ) → z < tableWords → CountLeft (isWord ws z) a b (getD t z 0) u

@@ -19,18 +19,17 @@ use Rattle.trees.specs.ScanLaws.{CountLeft, count-start, count-yes, count-no, c
 use Rattle.quick.specs.Tallies.{isWord, standing, Tallying}
 
 module _ (ws : List ℕ) (a b : ℕ) where
-  pub tally-start : a ≤ b → Tallying ws a b a (zeros tableWords)
-  tally-start h = record { words = length-zeros tableWords; high = h; counted = λ z k. rw (getD-zeros tableWords z) (count-start (isWord ws z) a b) }
+  pub tally-start : Tallying ws a b a (zeros tableWords)
+  tally-start = record { words = length-zeros tableWords; counted = λ z k. rw (getD-zeros tableWords z) (count-start (isWord ws z) a b) }
 
   module _ (u : ℕ) (t : List ℕ) (so-far : Tallying ws a b u t) where
-    -- no count is larger than the words passed
-    pub tally-room : (z : ℕ) → z < tableWords → getD t z 0 ≤ b
-    tally-room z h = omega (arith, so-far .counted z h .few, so-far .high)
+    -- no count is larger than the place
+    pub tally-room : (z : ℕ) → z < tableWords → getD t z 0 ≤ u
+    tally-room z h = so-far .counted z h .few
 
     pub tally-more : (k : ℕ) → u < b → k ≡ getD ws u 0 → k < tableWords → Tallying ws a b (u + 1) (set t k (getD t k 0 + 1))
     tally-more k h e l = record {
       words = length-set t k (getD t k 0 + 1) ∙ so-far .words;
-      high = omega arith;
       counted = λ z i. ⊎-elim (λ q. here z i (eqb-true z k q)) (λ q. there z i (eqb-false z k q)) (decide (eqb z k));
     }
       where
@@ -44,7 +43,6 @@ module _ (ws : List ℕ) (a b : ℕ) where
     pub tally-past : (k : ℕ) → u < b → k ≡ getD ws u 0 → tableWords ≤ k → Tallying ws a b (u + 1) t
     tally-past k h e l = record {
       words = so-far .words;
-      high = omega arith;
       counted = λ z i. count-no (so-far .counted z i) h (ne-eqb (getD ws u 0) z (λ q. omega arith));
     }
 

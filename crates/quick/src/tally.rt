@@ -19,7 +19,7 @@ fn raise(counts: &mut Table, k: usize)
 
 // Counts the words from a to below b, each at its own entry; a word that has none, as the root's mark, is passed over.
 pub(crate) fn tally(words: &[u16], a: usize, b: usize, counts: &mut Table)
-    requires { ⌜ (a ≤ b) × (b ≤ length (now words)) × (b ≤ tableWords) × (now counts ≡ zeros tableWords) ⌝ }
+    requires { ⌜ (b ≤ length (now words)) × (b ≤ tableWords) × (now counts ≡ zeros tableWords) ⌝ }
     ensures { λ _. ⌜ Tabled (standing (now (words .entry)) a b) 0 tableWords (now (counts .exit)) ⌝ }
 {
     let mut u = a;

@@ -14,7 +14,7 @@ add-tally c = search needs
 tally-requires : tie.Need-tally-requires
 tally-requires c κs =
     let pre = c .before .before .before .pre in
-    (omega arith, omega (arith, pre .0 .words), omega (arith, pre .0 .fits), pre .1)
+    (omega (arith, pre .0 .words), omega (arith, pre .0 .fits), pre .1)
 
 returns : tie.Need-returns
 returns c = tabled-children _ _ _ (c .before .before .nodes .ensures) (c .tally .ensures)

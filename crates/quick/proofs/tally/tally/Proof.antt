@@ -16,7 +16,7 @@ abbrev μ-loop : tie.MeasureT-loop
 μ-loop words a b counts₀ u₀ counts u = b - u
 
 loop-holds : tie.Need-loop-holds Inv-loop μ-loop
-loop-holds c = let pre = c .before .pre in rw (pre .3) (tally-start _ _ _ (pre .0))
+loop-holds c = rw (c .before .pre .2) (tally-start _ _ _)
 
 mul-wide : tie.Need-mul-wide Inv-loop μ-loop
 mul-wide c = search needs
