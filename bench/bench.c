@@ -1,9 +1,11 @@
-// Times the library's report, at several thresholds, and its well-formedness check against plain C and against a hash table, in one
-// process, as ratios. Ends with 1 if an answer differs.
+// Times the library's report, at several thresholds, and its well-formedness check against plain C and against a hash table, and the calls on
+// single rows against plain C, in one process, as ratios; with the argument `rows` those calls alone. Ends with 1 if an answer differs.
 #include "arb.h"
 #include "draws.h"
 #include "hashed.h"
+#include "measure.h"
 #include "plain.h"
+#include "row_tables.h"
 
 enum { ABSENT = 65535, ENGINES = 3, SIZES = 4, THRESHOLDS = 3, HALF = 50 };
 enum engine { LIBRARY, PLAIN, HASHED };
@@ -11,12 +13,9 @@ enum engine { LIBRARY, PLAIN, HASHED };
 static const int sizes[SIZES][2] = {{50, 324}, {512, 31}, {200, 500}, {512, 1024}};
 static const int thresholds[THRESHOLDS] = {HALF, 75, 100};
 
-// In eighths of a run's groups: half are common to all runs and half its own; or they are common to all, to most, to many runs, or its own.
-static const int alike[PARTS] = {4, 4, 4}, graded[PARTS] = {2, 3, 4};
-
 static u16 words[HEADER + RUNS * (2 * SAMPLES + 1)];
 static size_t length;
-static int n, k, p = HALF, failures;
+static int k, p = HALF;
 static u16 agreed[ENGINES][NODES], support[ENGINES][NODES];
 
 static void fail(const char *what) {
@@ -35,7 +34,7 @@ static void draw_study(enum shape shape, const int *eighths) {
         *slot(words, n, j) = j + 1;
         if (arb_renumber(n, row, 2 * n, slot(words, n, j) + 1, 2 * n)) fail("renumbering");
     }
-    words[5] = k;
+    words[IN_FORCE_AT] = k;
 }
 
 static void report(enum engine e) {
@@ -55,12 +54,6 @@ static void checked_report(enum engine e) {
     report(e);
 }
 
-static double now(void) {
-    struct timespec t;
-    clock_gettime(1, &t);
-    return t.tv_sec + 1e-9 * t.tv_nsec;
-}
-
 // Seconds that one call takes: the least of the calls that fill a second.
 static double seconds(void (*call)(enum engine), enum engine e) {
     double start = now(), least = 1e9;
@@ -77,8 +70,6 @@ static void compare_answers(void) {
     for (int e = PLAIN; e < ENGINES; e++)
         if (memcmp(agreed[e], agreed[LIBRARY], 4 * n) || memcmp(support[e], support[LIBRARY], 4 * n)) fail(e == PLAIN ? "plain C" : "the hash table");
 }
-
-static const char *name_of(enum shape shape) { return shape == RANDOM ? "Random trees" : "Caterpillars"; }
 
 static void measure_shape(enum shape shape) {
     double last_report = 0, last_check = 0, last_n = 0, last_k = 0;
@@ -140,10 +131,16 @@ static void measure_thresholds(enum shape shape) {
     p = HALF;
 }
 
-int main(void) {
+static void measure_studies(void) {
     measure_shape(RANDOM);
     measure_shape(CATERPILLAR);
     measure_thresholds(RANDOM);
     measure_thresholds(CATERPILLAR);
+}
+
+int main(int argc, char **argv) {
+    if (argc < 2 || strcmp(argv[1], "rows")) measure_studies();
+    measure_rows(RANDOM);
+    measure_rows(CATERPILLAR);
     return failures != 0;
 }

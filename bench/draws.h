@@ -6,6 +6,9 @@ enum shape { RANDOM, CATERPILLAR };
 // What runs have in common comes in parts, one upon the other: what all runs hold, what four in five hold, what three in five hold.
 enum { PARTS = 3, TURNS = 5 };
 
+// In eighths of a run's groups: half are common to all runs and half its own; or they are common to all, to most, to many runs, or its own.
+static const int alike[PARTS] = {4, 4, 4}, graded[PARTS] = {2, 3, 4};
+
 struct draw { int nodes, open; u16 parent[NODES], tops[SAMPLES]; };
 
 static u64 dice = 88172645463325252ul;
@@ -58,4 +61,19 @@ static void draw_row(struct draw d, enum shape shape, int n, u16 *row) {
     memset(row, 0, 2 * n * sizeof *row);
     row[0] = d.nodes;
     memcpy(row + 1, d.parent, d.nodes * sizeof *row);
+}
+
+static void swap(u16 *a, u16 *b) {
+    u16 old = *a;
+    *a = *b;
+    *b = old;
+}
+
+// Numbers the inner nodes anew, every order as likely as another.
+static void shuffle_inner(u16 *row, int n) {
+    u16 old[NODES], number[NODES];
+    memcpy(old, row, 2 * n * sizeof *row);
+    for (int v = 0; v < old[0]; v++) number[v] = v;
+    for (int v = old[0] - 1; v > n; v--) swap(&number[v], &number[n + below(v - n + 1)]);
+    rename_nodes(old, n, number, row);
 }

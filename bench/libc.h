@@ -10,3 +10,4 @@ typedef uint64_t u64;
 struct timespec { long tv_sec, tv_nsec; };
 void qsort(void *, size_t, size_t, int (*)(const void *, const void *));
 int clock_gettime(int, struct timespec *);
+int strcmp(const char *, const char *);

@@ -39,7 +39,7 @@ static int standard(const u16 *row, int n) {
 static int plain_formed(const u16 *words, size_t length) {
     static const u16 mark[4] = {65, 82, 66, 1};
     if (length < HEADER || memcmp(words, mark, sizeof mark) || words[6] || words[7]) return 0;
-    int n = words[4], k = words[5], last = 0;
+    int n = words[SAMPLES_AT], k = words[IN_FORCE_AT], last = 0;
     if (n < 2 || n > SAMPLES || k > RUNS || (length - HEADER) / slot_words(n) < k) return 0;
     for (int j = 0; j < k; j++) {
         if (*slot(words, n, j) <= last || !standard(run(words, n, j), n)) return 0;
