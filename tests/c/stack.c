@@ -1,0 +1,347 @@
+// Measures the stack that each call of include/arb.h takes, callees included. A call is made on a stack of its own that was painted first,
+// and the lowest byte that is no longer paint says how deep it went. It is made on trees of several shapes, beside studies of several sizes,
+// with each change of one table that applies to it, so that every refusal comes too; the table has the number that the rules expect. Prints
+// a line for each call, 'judge 152', the most bytes over all its inputs. The status is 0 only if each answer had the number expected and
+// each change was tried.
+#include "arb.h"
+#include <stdio.h>
+#include <string.h>
+
+// Numbers of runs. Of each five runs of a study three have one tree in common.
+enum { ONE = 1, SEVERAL = 5, MANY = 200, TURNS = 5, COMMON_TURNS = 3 };
+enum { RUNS_AT = 5, ROW_ROOM = ARB_ROW_WORDS(ARB_MOST_SAMPLES), STUDY_ROOM = ARB_STUDY_WORDS(ARB_MOST_SAMPLES, SEVERAL + 1) };
+
+#define COUNT(table) (sizeof(table) / sizeof *(table))
+
+// The calls, and sets of them.
+enum call { OPEN, ADD, WITHDRAW, REPORT, JUDGE, RENUMBER, COMPARE, CALLS };
+#define IN(call) (1u << (call))
+#define TAKES_N (IN(OPEN) | IN(JUDGE) | IN(RENUMBER) | IN(COMPARE))
+#define TAKES_STUDY (IN(ADD) | IN(WITHDRAW) | IN(REPORT))
+#define TAKES_ROW (IN(ADD) | IN(JUDGE) | IN(RENUMBER) | IN(COMPARE))
+
+typedef void (*function)(void);
+
+static const struct {
+    const char *name;
+    function made;
+} calls[CALLS] = {
+    [OPEN] = {"open", (function)arb_open},
+    [ADD] = {"add", (function)arb_add},
+    [WITHDRAW] = {"withdraw", (function)arb_withdraw},
+    [REPORT] = {"report", (function)arb_report},
+    [JUDGE] = {"judge", (function)arb_judge},
+    [RENUMBER] = {"renumber", (function)arb_renumber},
+    [COMPARE] = {"compare", (function)arb_compare},
+};
+
+struct row {
+    size_t length;
+    uint16_t at[ROW_ROOM];
+};
+
+// What any of the calls can be made with. `fresh` is the identifier for adding, `taken` the one for withdrawing; comparing takes `row` and
+// `other`, in this order unless `row_is_second`; `out` is what renumbering writes, and the agreed row of a report.
+struct input {
+    size_t n, p;
+    uint16_t fresh, taken;
+    int row_is_second;
+    struct row row, other, out, support;
+    size_t study_length;
+    uint16_t study[STUDY_ROOM];
+};
+
+// How many samples, and how many runs in force.
+static const struct size {
+    size_t n, k;
+} sizes[] = {
+    {ARB_FEWEST_SAMPLES, 0}, {ARB_FEWEST_SAMPLES, ONE}, {ARB_FEWEST_SAMPLES, SEVERAL}, {ARB_FEWEST_SAMPLES, MANY},
+    {3, 0}, {3, ONE}, {3, SEVERAL}, {3, MANY},
+    {ARB_MOST_SAMPLES, 0}, {ARB_MOST_SAMPLES, ONE}, {ARB_MOST_SAMPLES, SEVERAL},
+};
+
+// Trees: their shape, and whether the numbers of inner nodes rise on the way up or are shuffled.
+enum shape { BUSH, CATERPILLAR, RANDOM };
+enum numbers { RISING, SHUFFLED };
+static const struct tree {
+    enum shape shape;
+    enum numbers numbers;
+} trees[] = {{BUSH, RISING}, {CATERPILLAR, RISING}, {CATERPILLAR, SHUFFLED}, {RANDOM, SHUFFLED}};
+
+// What is changed in an input that is in order.
+enum part { NOTHING, N, P, STUDY_MARK, STUDY_ROW, STUDY_END, STUDY_SHORT, STUDY_FULL, ROW_LENGTH, OUT_LENGTH, SUPPORT_LENGTH, NO_IDENTIFIER,
+    IDENTIFIER_TAKEN, IDENTIFIER_ABSENT, NODES, PARENT, ROOT, FILLER, LOST, CHILDREN };
+
+// What the input must have for that: runs in force, none, words of filler, an inner node besides the root.
+enum need { ANY, RUNS, NO_RUNS, FILLING, INNER };
+
+// `to` is the new n or p, `number` the refusal that follows, or 0.
+static const struct change {
+    enum part part;
+    size_t to;
+    unsigned number;
+    enum need need;
+    unsigned calls;
+} changes[] = {
+    {NOTHING, 0, 0, ANY, TAKES_N | IN(ADD)},
+    {NOTHING, 0, 0, RUNS, IN(WITHDRAW)},
+    {P, ARB_NO_THRESHOLD, 0, RUNS, IN(REPORT)},
+    {P, ARB_LEAST_THRESHOLD, 0, RUNS, IN(REPORT)},
+    {P, 75, 0, RUNS, IN(REPORT)},
+    {P, ARB_MOST_THRESHOLD, 0, RUNS, IN(REPORT)},
+    {N, ARB_FEWEST_SAMPLES - 1, ARB_REFUSAL_SAMPLES, ANY, TAKES_N},
+    {N, ARB_MOST_SAMPLES + 1, ARB_REFUSAL_SAMPLES, ANY, TAKES_N},
+    {STUDY_MARK, 0, ARB_REFUSAL_STUDY, ANY, TAKES_STUDY},
+    {STUDY_ROW, 0, ARB_REFUSAL_STUDY, RUNS, TAKES_STUDY},
+    {STUDY_END, 0, ARB_REFUSAL_STUDY, ANY, TAKES_STUDY},
+    {STUDY_SHORT, 0, ARB_REFUSAL_STUDY, ANY, TAKES_STUDY},
+    {STUDY_SHORT, 0, ARB_REFUSAL_WORDS, ANY, IN(OPEN)},
+    {ROW_LENGTH, 0, ARB_REFUSAL_WORDS, ANY, TAKES_ROW},
+    {OUT_LENGTH, 0, ARB_REFUSAL_WORDS, ANY, IN(RENUMBER) | IN(REPORT)},
+    {SUPPORT_LENGTH, 0, ARB_REFUSAL_WORDS, ANY, IN(REPORT)},
+    {NO_IDENTIFIER, 0, ARB_REFUSAL_IDENTIFIER, ANY, IN(ADD) | IN(WITHDRAW)},
+    {NODES, 0, ARB_REFUSAL_NODES, ANY, TAKES_ROW},
+    {PARENT, 0, ARB_REFUSAL_PARENT, ANY, TAKES_ROW},
+    {ROOT, 0, ARB_REFUSAL_ROOT, ANY, TAKES_ROW},
+    {FILLER, 0, ARB_REFUSAL_FILLER, FILLING, TAKES_ROW},
+    {LOST, 0, ARB_REFUSAL_LOST, INNER, TAKES_ROW},
+    {CHILDREN, 0, ARB_REFUSAL_CHILDREN, INNER, TAKES_ROW},
+    {IDENTIFIER_TAKEN, 0, ARB_REFUSAL_TAKEN, RUNS, IN(ADD)},
+    {STUDY_FULL, 0, ARB_REFUSAL_FULL, RUNS, IN(ADD)},
+    {IDENTIFIER_ABSENT, 0, ARB_REFUSAL_ABSENT, ANY, IN(WITHDRAW)},
+    {NOTHING, 0, ARB_REFUSAL_EMPTY, NO_RUNS, IN(REPORT)},
+    {P, ARB_LEAST_THRESHOLD - 1, ARB_REFUSAL_THRESHOLD, ANY, IN(REPORT)},
+    {P, ARB_MOST_THRESHOLD + 1, ARB_REFUSAL_THRESHOLD, ANY, IN(REPORT)},
+};
+
+static int was_tried[COUNT(changes)], failures;
+static size_t deepest[CALLS];
+
+static void fail(enum call call, const struct input *in, unsigned number, uint64_t answer) {
+    printf("failed: %s, n = %u, k = %u: expected %u, came %u at %u\n", calls[call].name, (unsigned)in->n, in->study[RUNS_AT], number,
+        ARB_NUMBER(answer), ARB_PLACE(answer));
+    failures++;
+}
+
+// The painted stack, larger than any bound. Its top is aligned as a call needs it; above it is what a caller puts there, the seventh argument.
+enum { STACK_BYTES = 128 * 1024, ARGUMENTS = 7 };
+static struct {
+    unsigned char bytes[STACK_BYTES];
+    uint64_t seventh;
+} painted __attribute__((aligned(16)));
+
+// Whatever byte a call writes, it differs from one of the two.
+static const unsigned char paints[] = {0xA5, 0x5A};
+
+// Makes a call on the painted stack. Arguments that it does not have are not looked at.
+static uint64_t call_there(function made, const uint64_t *argument) {
+    register uint64_t fifth __asm__("r8") = argument[4], sixth __asm__("r9") = argument[5];
+    uint64_t answer, first = argument[0], second = argument[1], third = argument[2], fourth = argument[3];
+    painted.seventh = argument[6];
+    __asm__ volatile("movq %%rsp, %%rbx\n\t"
+                     "movq %[top], %%rsp\n\t"
+                     "callq *%[made]\n\t"
+                     "movq %%rbx, %%rsp"
+                     : "=a"(answer), "+D"(first), "+S"(second), "+d"(third), "+c"(fourth), "+r"(fifth), "+r"(sixth)
+                     : [made] "r"(made), [top] "r"(&painted.seventh)
+                     : "rbx", "r10", "r11", "xmm0", "xmm1", "xmm2", "xmm3", "xmm4", "xmm5", "xmm6", "xmm7", "xmm8", "xmm9", "xmm10", "xmm11",
+                     "xmm12", "xmm13", "xmm14", "xmm15", "cc", "memory");
+    return answer;
+}
+
+// The bytes from the top down to the lowest that is no longer paint: the return address is the first 8 of them.
+static size_t depth(unsigned char paint) {
+    size_t lowest = 0;
+    while (lowest < STACK_BYTES && painted.bytes[lowest] == paint) lowest++;
+    return STACK_BYTES - lowest;
+}
+
+#define AT(words) ((uint64_t)(words))
+
+static uint64_t answer_of(enum call call, const struct input *in) {
+    const struct row *first = in->row_is_second ? &in->other : &in->row, *second = in->row_is_second ? &in->row : &in->other;
+    const uint64_t arguments[CALLS][ARGUMENTS] = {
+        [OPEN] = {in->n, AT(in->study), in->study_length},
+        [ADD] = {AT(in->study), in->study_length, in->fresh, AT(in->row.at), in->row.length},
+        [WITHDRAW] = {AT(in->study), in->study_length, in->taken},
+        [REPORT] = {AT(in->study), in->study_length, in->p, AT(in->out.at), in->out.length, AT(in->support.at), in->support.length},
+        [JUDGE] = {in->n, AT(in->row.at), in->row.length},
+        [RENUMBER] = {in->n, AT(in->row.at), in->row.length, AT(in->out.at), in->out.length},
+        [COMPARE] = {in->n, AT(first->at), first->length, AT(second->at), second->length},
+    };
+    return call_there(calls[call].made, arguments[call]);
+}
+
+// How deep a call goes on a copy of this input.
+static size_t depth_of(enum call call, const struct input *given, unsigned number, unsigned char paint) {
+    static struct input in;
+    in = *given;
+    memset(painted.bytes, paint, STACK_BYTES);
+    uint64_t answer = answer_of(call, &in);
+    if (ARB_NUMBER(answer) != number) fail(call, given, number, answer);
+    return depth(paint);
+}
+
+// The first call does not count: it may be the one in which the dynamic linker looks for memcpy or memset, on the same stack.
+static void measure(enum call call, const struct input *in, unsigned number) {
+    depth_of(call, in, number, paints[0]);
+    for (size_t i = 0; i < COUNT(paints); i++) {
+        size_t bytes = depth_of(call, in, number, paints[i]);
+        if (bytes > deepest[call]) deepest[call] = bytes;
+    }
+}
+
+static uint16_t root_of(size_t n, const uint16_t *row) {
+    uint16_t v = n;
+    while (row[1 + v] != ARB_ROOT_MARK) v++;
+    return v;
+}
+
+// All children of v but the lowest go to the root.
+static void leave_one_child(uint16_t v, uint16_t root, uint16_t *row) {
+    int found = 0;
+    for (uint16_t u = 0; u < row[0]; u++)
+        if (row[1 + u] == v && found++) row[1 + u] = root;
+}
+
+static void change_row(enum part part, size_t n, uint16_t *row) {
+    uint16_t root = root_of(n, row), inner = root == n ? n + 1 : n, last = row[0] - 1;
+    if (part == NODES) row[0] = 2 * n;
+    if (part == PARENT) row[1 + last] = 0;
+    if (part == ROOT) row[1 + root] = root;
+    if (part == FILLER) row[2 * n - 1] = 1;
+    if (part == LOST) row[1 + inner] = inner;
+    if (part == CHILDREN) leave_one_child(inner, root, row);
+}
+
+static void make_change(const struct change *c, struct input *in) {
+    size_t n = in->n, k = in->study[RUNS_AT];
+    switch (c->part) {
+    case NOTHING: break;
+    case N: in->n = c->to; break;
+    case P: in->p = c->to; break;
+    case STUDY_MARK: in->study[0]++; break;
+    case STUDY_ROW: in->study[ARB_STUDY_WORDS(n, k - 1) + 1] = 0; break;
+    case STUDY_END: in->study[in->study_length - 1] = 1; break;
+    case STUDY_SHORT: in->study_length = ARB_STUDY_WORDS(n, 1) - 1; break;
+    case STUDY_FULL: in->study_length = ARB_STUDY_WORDS(n, k); break;
+    case ROW_LENGTH: in->row.length--; break;
+    case OUT_LENGTH: in->out.length--; break;
+    case SUPPORT_LENGTH: in->support.length--; break;
+    case NO_IDENTIFIER: in->fresh = in->taken = 0; break;
+    case IDENTIFIER_TAKEN: in->fresh = in->taken; break;
+    case IDENTIFIER_ABSENT: in->taken = in->fresh; break;
+    default: change_row(c->part, n, in->row.at);
+    }
+}
+
+static int has(const struct input *in, enum need need) {
+    size_t m = in->row.at[0], k = in->study[RUNS_AT];
+    switch (need) {
+    case ANY: return 1;
+    case RUNS: return k > 0;
+    case NO_RUNS: return k == 0;
+    case FILLING: return m < 2 * in->n - 1;
+    case INNER: return m > in->n + 1;
+    }
+    return 0;
+}
+
+static void try_change(size_t i, const struct input *in_order) {
+    static struct input in;
+    const struct change *c = &changes[i];
+    if (!has(in_order, c->need)) return;
+    in = *in_order;
+    make_change(c, &in);
+    for (int call = 0; call < CALLS; call++)
+        if (c->calls & IN(call)) measure(call, &in, c->number);
+    in.row_is_second = 1;
+    if (c->calls & IN(COMPARE)) measure(COMPARE, &in, c->number);
+    was_tried[i] = 1;
+}
+
+static uint64_t dice = 88172645463325252;
+static size_t below(size_t bound) {
+    dice ^= dice << 13;
+    dice ^= dice >> 7;
+    dice ^= dice << 17;
+    return dice % bound;
+}
+
+// Two subtrees at a time are joined under a new node, until one is left; a caterpillar's first is what was joined last.
+static uint16_t join_all(enum shape shape, size_t n, uint16_t *parents) {
+    uint16_t tops[ARB_MOST_SAMPLES], m = n;
+    for (size_t s = 0; s < n; s++) tops[s] = s;
+    for (size_t open = n; open > 1;) {
+        size_t a = shape == CATERPILLAR ? 0 : below(open), b = below(open - 1);
+        if (b >= a) b++;
+        parents[tops[a]] = parents[tops[b]] = m;
+        tops[a] = m++;
+        tops[b] = tops[--open];
+    }
+    return m;
+}
+
+static uint16_t put_under_root(size_t n, uint16_t *parents) {
+    for (size_t s = 0; s < n; s++) parents[s] = n;
+    return n + 1;
+}
+
+// Inner nodes change their numbers with one another.
+static void shuffle(size_t n, uint16_t *row) {
+    uint16_t number[ROW_ROOM], old[ROW_ROOM];
+    for (size_t v = 0; v < row[0]; v++) number[v] = v;
+    for (size_t v = n; v < row[0]; v++) {
+        size_t u = n + below(v - n + 1);
+        number[v] = number[u];
+        number[u] = v;
+    }
+    memcpy(old, row, sizeof old);
+    for (size_t v = 0; v < row[0]; v++) row[1 + number[v]] = old[1 + v] == ARB_ROOT_MARK ? ARB_ROOT_MARK : number[old[1 + v]];
+}
+
+static void draw(const struct tree *tree, size_t n, struct row *row) {
+    memset(row, 0, sizeof *row);
+    row->length = ARB_ROW_WORDS(n);
+    row->at[0] = tree->shape == BUSH ? put_under_root(n, row->at + 1) : join_all(tree->shape, n, row->at + 1);
+    row->at[row->at[0]] = ARB_ROOT_MARK;
+    if (tree->numbers == SHUFFLED) shuffle(n, row->at);
+}
+
+// Room for one run more than there are. Runs have the input's row, or in the other turns a tree of their own, and every other identifier.
+static void fill_study(const struct tree *tree, size_t k, struct input *in) {
+    struct row own;
+    in->study_length = ARB_STUDY_WORDS(in->n, k + 1);
+    uint64_t answers = arb_open(in->n, in->study, in->study_length);
+    for (size_t j = 0; j < k; j++) {
+        draw(tree, in->n, &own);
+        const struct row *row = j % TURNS < COMMON_TURNS ? &in->row : &own;
+        answers |= arb_add(in->study, in->study_length, in->taken + 2 * j, row->at, row->length);
+    }
+    if (!ARB_ACCEPTED(answers)) fail(ADD, in, 0, answers);
+}
+
+static void try_input(const struct size *size, const struct tree *tree) {
+    static struct input in;
+    memset(&in, 0, sizeof in);
+    in.n = size->n;
+    in.taken = 2;
+    in.fresh = in.taken + 1;
+    in.out.length = in.support.length = ARB_ROW_WORDS(in.n);
+    draw(tree, in.n, &in.row);
+    draw(tree, in.n, &in.other);
+    fill_study(tree, size->k, &in);
+    for (size_t i = 0; i < COUNT(changes); i++) try_change(i, &in);
+}
+
+int main(void) {
+    for (size_t i = 0; i < COUNT(sizes); i++)
+        for (size_t j = 0; j < COUNT(trees); j++) try_input(&sizes[i], &trees[j]);
+    for (size_t i = 0; i < COUNT(changes); i++) {
+        if (was_tried[i]) continue;
+        printf("failed: no input was right for change %u\n", (unsigned)i);
+        failures++;
+    }
+    for (int call = 0; call < CALLS; call++) printf("%s %u\n", calls[call].name, (unsigned)deepest[call]);
+    return failures != 0;
+}
