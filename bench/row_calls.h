@@ -44,7 +44,7 @@ static const struct line lines[] = {
     {.name = "judge", .library = judge_by_library, .plain = judge_by_scans, .linear = judge_by_tables, .power = SQUARE},
     {.name = "renumber", .library = renumber_by_library, .plain = renumber_by_plain, .power = SQUARE},
     {.name = "compare", .library = compare_by_library, .plain = compare_by_plain, .power = SQUARE},
-    {.name = "check in an add", .library = check_by_library, .plain = judge_by_tables, .taken_off = study_check, .power = SQUARE},
+    {.name = "check in an add", .library = check_by_library, .plain = judge_by_tables, .taken_off = study_check, .power = LINEAR},
     {.name = "first add", .library = add_by_library, .plain = add_by_plain, .power = SQUARE, .fills = 1},
 };
 

@@ -40,7 +40,7 @@
  * Any words may be handed in: each call checks them itself and stays within the buffers. After a refusal no word of them differs.
  *
  * The library keeps nothing between calls and takes no memory: calls may run at the same time on different buffers, or on the same ones where
- * none is written. No call needs more than 64 KiB of stack, and arb_judge no more than 192 bytes; docs/USING.md has the bound of each call. The
+ * none is written. No call needs more than 64 KiB of stack, and arb_judge no more than 24 bytes; docs/USING.md has the bound of each call. The
  * library uses memcpy and memset of the C library, arb_judge neither of them, and is for x86-64 Linux.
  */
 #ifndef ARB_H

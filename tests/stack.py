@@ -20,7 +20,7 @@ OF_ANY = r"(\d+) KiB of stack"
 OF_JUDGING = r"arb_judge no more than ([\d,]+) bytes"
 KIB = 1024
 # A bound may lie above what was measured as far as the next multiple of a step: a fine one as long as that is less than the coarse one.
-FINE, COARSE = 64, 1024
+FINE, COARSE = 8, 1024
 
 
 def rounded_up(count: int) -> int:
