@@ -9,7 +9,7 @@ use Rattle.judge.specs.declared.Answer.{Answer}
 use Rattle.judge.specs.declared.Answer.the-variants.{Accepted}
 use Rattle.judge.specs.Verdicts.{verdict}
 use Rattle.judge.proofs.Laws.{words-nodes, words-closed}
-use Rattle.quick.specs.Marking.{LaidOut}
+use Rattle.quick.specs.Layout.{LaidOut}
 
 pub laid-out : (n : ℕ) (row : List ℕ) (a : Answer) → verdict a ≡ wordChecks n row ⊳ accepted → a ≡ Accepted → fewestSamples ≤ n → n ≤ mostSamples
     → length row ≡ rowWords n → LaidOut row

@@ -8,13 +8,6 @@ use lib.ListN.{length}
 use Rattle.trees.specs.Lists.{range, count}
 use Rattle.trees.specs.Rows.{nodes, ends}
 use Rattle.trees.specs.Tables.{tableWords, entry}
-use Rattle.trees.specs.WayLaws.{Closed}
-
--- what a row is known to be once checks 5 to 8 have passed: its nodes fit its words and a table, and each has its parent among them
-pub record LaidOut (r : List ℕ) : Type 0 where
-  pub words : nodes r < length r
-  pub fits : nodes r < tableWords
-  pub closed : Closed (nodes r) r
 
 -- from each node that is marked the way up comes to the root
 pub record Marked (r marks : List ℕ) : Type 0 where

@@ -4,7 +4,7 @@ ghost use Rattle.trees.specs.Lists.{zeros};
 ghost use Rattle.trees.specs.Checks.{asked, check10, children};
 ghost use Rattle.trees.specs.Tables.{Tabled, tableWords};
 ghost use Rattle.judge.specs.Verdicts.{verdict};
-ghost use Rattle.quick.specs.Marking.{LaidOut};
+ghost use Rattle.quick.specs.Layout.{LaidOut};
 use crate::tally::tally;
 use judge::Answer;
 use judge::FEWEST_CHILDREN;
