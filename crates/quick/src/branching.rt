@@ -39,7 +39,7 @@ fn branching_counted(n: usize, row: &[u16], counts: &Table) -> Answer
 }
 
 // Check 10: the lowest inner node with one child or none (RULES 7.5).
-// For the calls that have room for a table. Judging uses the form of `judge`.
+// For adding, renumbering and comparing, which have room for a table: linear. Judging uses the form of `judge`.
 pub(crate) fn branching(n: usize, row: &[u16]) -> Answer
     requires { ⌜ LaidOut (now row) ⌝ }
     ensures { λ r. ⌜ verdict r ≡ asked (check10 n (now (row .entry))) ⌝ }

@@ -76,7 +76,7 @@ fn climbing_marked(row: &[u16], marks: &mut Table) -> Answer
 }
 
 // Check 9: the lowest node whose way up never comes to the root (RULES 7.5).
-// For the calls that have room for a table. Judging uses the form of `judge`.
+// For adding, renumbering and comparing, which have room for a table: linear. Judging uses the form of `judge`.
 pub(crate) fn climbing(row: &[u16]) -> Answer
     requires { ⌜ LaidOut (now row) ⌝ }
     ensures { λ r. ⌜ ((n : ℕ) → verdict r ≡ asked (check9 n (now (row .entry)))) ⌝ }

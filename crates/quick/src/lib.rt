@@ -14,7 +14,7 @@ use climbing::climbing;
 use judge::Answer;
 
 // Checks 5 to 10, of a row of the right length for n: the first that applies is the answer (RULES 7.2).
-// For adding, renumbering and comparing, which have room for tables. Judging has a form of its own, with none.
+// For adding, renumbering and comparing, which have room for tables: linear. Judging has a form of its own, with none.
 pub fn check_row(n: usize, row: &[u16]) -> Answer
     requires { ⌜ (fewestSamples ≤ n) × (n ≤ mostSamples) × (length (now row) ≡ rowWords n) ⌝ }
     ensures { λ r. ⌜ verdict r ≡ rowChecks n (now (row .entry)) ⊳ accepted ⌝ }
