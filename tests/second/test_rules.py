@@ -477,6 +477,13 @@ def test_refused_slots() -> None:
     assert listed(files.file_of(3, [[0] + WITH_01, good, good])) == b"refused 4 0 0\n"
 
 
+def test_slots_refused_by_last_checks() -> None:
+    """The files made for 9 and 10 are refused so: of each n four with 9, then two with 10."""
+    made = list(files.refused_by_last_checks(Random(1)))
+    numbers = [listing.number_in(listed(data)) for data in made]
+    assert numbers == [9, 9, 9, 9, 10, 10] * (len(made) // 6)
+
+
 def test_more_slots_than_runs() -> None:
     """k above 1,024 gives 12 at slot 1,024, if that slot passes 4 to 11."""
     slots = [[1 + i] + ONLY_TREE_OF_2 for i in range(1026)]
