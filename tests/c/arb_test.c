@@ -174,8 +174,15 @@ static const struct bad_row {
     {6, 0, ROW_3(5, 2, 3, 3, ROOT, 3)},
     {7, 0, ROW_3(5, 4, 4, 3, ROOT, ROOT)},
     {8, 5, ROW_3(4, 3, 3, 3, ROOT, 7)},
+    {9, 0, ROW_3(5, 4, 3, 3, ROOT, 4)},
+    {9, 2, ROW_3(5, 3, 3, 4, ROOT, 4)},
+    {9, 3, ROW_3(5, 4, 4, 4, 3, ROOT)},
     {9, 4, ROW_3(5, 3, 3, 3, ROOT, 4)},
+    {10, 3, ROW_3(5, 4, 4, 4, ROOT, 3)},
+    {10, 3, ROW_3(5, 4, 4, 4, 4, ROOT)},
     {10, 4, ROW_3(ONE_CHILD)},
+    {10, 4, ROW_3(5, 3, 3, 3, ROOT, 3)},
+    {10, 4, ROW_3(5, 3, 3, 3, 4, ROOT)},
 };
 
 // Thresholds that are refused (RULES 5.7); of some the low 8, 16 or 32 bits would be accepted.
@@ -322,6 +329,55 @@ static void test_most_samples(void) {
     check("their run is reported itself, with support 1", same_report(study, COUNT(study), 0, wide_rows[0], 1, 0));
 }
 
+// The deepest tree of 512 samples, a chain of all inner nodes with sample 0 at its end: in standard numbering, which is from the root down
+// (RULES 4.1), and numbered from the end up.
+enum { END = WIDE - 2, LAST = WIDE + END };
+static uint16_t chain_down[WIDE_ROW], chain_up[WIDE_ROW];
+
+static void write_chains(void) {
+    chain_down[0] = chain_up[0] = LAST + 1;
+    for (int sample = 0; sample < WIDE; sample++) {
+        int depth = sample == 0 ? END : WIDE - 1 - sample;
+        chain_down[1 + sample] = WIDE + depth;
+        chain_up[1 + sample] = LAST - depth;
+    }
+    for (int depth = 0; depth <= END; depth++) {
+        chain_down[1 + WIDE + depth] = depth == 0 ? ROOT : WIDE + depth - 1;
+        chain_up[1 + LAST - depth] = depth == 0 ? ROOT : LAST - depth + 1;
+    }
+}
+
+static void test_deepest(void) {
+    static uint16_t out[WIDE_ROW];
+    uint64_t answer = arb_renumber(WIDE, chain_up, WIDE_ROW, out, WIDE_ROW);
+    check("the deepest tree is renumbered", same_answer(ACCEPTED, answer) && memcmp(out, chain_down, sizeof out) == 0);
+    check("it is compared with itself", same_answer(COUNTED(LAST + 1, 0, 0), arb_compare(WIDE, chain_down, WIDE_ROW, chain_up, WIDE_ROW)));
+}
+
+// Whether every call that takes a row refuses this one, of 512 samples; comparing, in either place.
+static int refuses_wide(uint64_t number, uint64_t place, const uint16_t *row) {
+    static uint16_t study[ARB_STUDY_WORDS(WIDE, 1)], out[WIDE_ROW];
+    uint64_t answer = REFUSED(number, place), moved = REFUSED(number, place + WIDE_ROW);
+    return same_answer(ACCEPTED, arb_open(WIDE, study, COUNT(study))) && same_answer(answer, arb_add(study, COUNT(study), 1, row, WIDE_ROW))
+        && same_answer(answer, arb_judge(WIDE, row, WIDE_ROW)) && same_answer(answer, arb_renumber(WIDE, row, WIDE_ROW, out, WIDE_ROW))
+        && same_answer(answer, arb_compare(WIDE, row, WIDE_ROW, chain_up, WIDE_ROW))
+        && same_answer(moved, arb_compare(WIDE, chain_up, WIDE_ROW, row, WIDE_ROW));
+}
+
+// The chain with its second node below the end; with the samples of the end moved up, so that the last node has no child; and then with
+// that node below itself.
+static void test_wrong_chains(void) {
+    uint16_t row[WIDE_ROW];
+    memcpy(row, chain_down, sizeof row);
+    row[1 + WIDE + 1] = LAST;
+    check("all inner nodes but the root are a ring", refuses_wide(9, 0, row));
+    memcpy(row, chain_down, sizeof row);
+    row[1 + 0] = row[1 + 1] = LAST - 1;
+    check("the last of 1023 nodes has no child", refuses_wide(10, LAST, row));
+    row[1 + LAST] = LAST;
+    check("the last of 1023 nodes is lost", refuses_wide(9, LAST, row));
+}
+
 // n that 16 or 32 bits do not hold are refused with 1 (RULES 1.1), though what those bits leave of them fits the row.
 static const struct large_n {
     const char *name;
@@ -427,6 +483,9 @@ int main(void) {
     test_without_buffers();
     write_wide_rows();
     test_most_samples();
+    write_chains();
+    test_deepest();
+    test_wrong_chains();
     for (size_t i = 0; i < COUNT(large_ns); i++) test_large_n(&large_ns[i]);
     test_most_runs(ARB_STUDY_WORDS(2, ARB_MOST_RUNS));
     test_most_runs(ARB_STUDY_WORDS(2, ARB_MOST_RUNS + 1));

@@ -24,6 +24,7 @@ from rules import MOST_RUNS, Tree, Words, slot_width  # noqa: E402
 from specimens import BARE_3, ONLY_TREE_OF_2, RUNS_OF_5, WITH_01, WITH_02  # noqa: E402
 
 SEED = 20250
+LAST_CHECKS_SEED = 20350  # of the files made last, so that those before them stay as they are
 
 # Files
 
@@ -108,6 +109,16 @@ def with_row(rng: Random, n: int, row: Words) -> bytes:
     slot = rng.choice(slots)
     slot[1:] = row
     return file_of(n, slots)
+
+
+def refused_by_last_checks(rng: Random) -> Iterator[bytes]:
+    """A row in some slot that 9 or 10 refuses, at the first and last samples and inner nodes."""
+    for n in (3, 4, 7, 16, 40, 512):
+        m = rows.nodes_from(rng, n, n + 2)
+        for v in (0, n - 1, n, m - 1):
+            yield with_row(rng, n, rows.lost_row(rng, n, m, rows.lost_from(rng, n, m, v)))
+        for v in (n, m - 1):
+            yield with_row(rng, n, rows.few_children_row(rng, n, m, *rows.few_from(rng, n, m, v)))
 
 
 def refused_identifiers(rng: Random) -> Iterator[bytes]:
@@ -244,6 +255,7 @@ def named_files() -> Iterator[tuple[str, bytes]]:
         "long": too_long(rng),
         "mark": wrong_marks(),
         "product": wrong_products(rng),
+        "last": refused_by_last_checks(Random(LAST_CHECKS_SEED)),
     }
     for kind, files in kinds.items():
         for i, data in enumerate(files):

@@ -8,6 +8,7 @@ from typing import Callable, Iterator, NamedTuple
 
 import calls_compare
 import calls_judge
+import calls_last_checks
 import calls_renumber
 import calls_report
 import calls_studies
@@ -69,9 +70,10 @@ def material_of(ops: list[int]) -> list[Material]:
 
 
 def stored_calls(ops: list[int]) -> Iterator[Call]:
-    """All calls of these ops that are stored, in their order."""
+    """All calls of these ops that are stored, in their order: op by op, then those of several."""
     for material in material_of(ops):
         yield from material.stored(Random(SEED + material.op))
+    yield from (call for call in calls_last_checks.stored() if call.op in ops)
 
 
 def random_calls(rng: Random, ops: list[int], count: int) -> Iterator[Call]:

@@ -12,7 +12,7 @@ from typing import Callable, Iterator
 
 from rules import ROOT, Tree, Words, filled, groups_of, row_in_order, row_of, row_refusal
 from rules import standard_order
-from shapes import any_tree, bare, binary, caterpillar, few_inner, shuffled
+from shapes import any_tree, bare, binary, caterpillar, cut, few_inner, shuffled, some_groups
 
 # How many samples
 
@@ -51,10 +51,15 @@ def rows_in_range(n: int, m: int) -> Iterator[Words]:
         yield filled(n, [m, *parents])
 
 
+def rows_with_root(n: int) -> list[Words]:
+    """Every row of n samples that the checks 5 to 8 pass; n has to be small."""
+    rows = [row for m in range(n + 1, 2 * n) for row in rows_in_range(n, m)]
+    return [row for row in rows if row.count(ROOT) == 1]
+
+
 def valid_rows(n: int) -> list[Words]:
     """Every valid row of n samples; n has to be small."""
-    rows = [row for m in range(n + 1, 2 * n) for row in rows_in_range(n, m)]
-    return [row for row in rows if row_refusal(n, row) is None]
+    return [row for row in rows_with_root(n) if row_refusal(n, row) is None]
 
 
 def every_tree(n: int) -> list[Tree]:
@@ -183,13 +188,17 @@ def bent_row(rng: Random, n: int) -> Words:
     return row
 
 
+def with_filler(rng: Random, n: int, row: Words) -> Words:
+    """The row with filler that is not 0, if it has any."""
+    spoilt, filler = list(row), range(1 + row[0], 2 * n)
+    for i in rng.sample(filler, min(len(filler), rng.randint(1, 2))):
+        spoilt[i] = rng.choice([1, n, 2 * n, 256, ROOT])
+    return spoilt
+
+
 def filler_row(rng: Random, n: int) -> Words:
     """A row of a tree with few inner nodes and filler that is not 0 (for 8), where n allows."""
-    row = shuffled_row(rng, n, rng.choice([bare, few_inner])(rng, n))
-    filler = range(1 + row[0], 2 * n)
-    for i in rng.sample(filler, min(len(filler), rng.randint(1, 2))):
-        row[i] = rng.choice([1, n, 2 * n, 256, ROOT])
-    return row
+    return with_filler(rng, n, shuffled_row(rng, n, rng.choice([bare, few_inner])(rng, n)))
 
 
 def roots_row(rng: Random, n: int) -> Words:
@@ -242,3 +251,116 @@ def one_wrong_length(rng: Random, buffers: list[Words]) -> list[Words]:
     """The buffers, one of them with a wrong length."""
     which = rng.randrange(len(buffers))
     return [wrong_length(rng, words) if i == which else words for i, words in enumerate(buffers)]
+
+
+# Rows that checks 5 to 8 pass, made so that it is known where 9 and 10 apply
+
+
+def nodes_from(rng: Random, n: int, least: int) -> int:
+    """How many nodes a row has, this many at least; often so many that there is no filler."""
+    return rng.choice([2 * n - 1, rng.randint(least, 2 * n - 1)])
+
+
+def orders_of(rng: Random, inner: list[int]) -> list[list[int]]:
+    """Orders of inner nodes, from the root down: rising, falling, each with another root, any."""
+    first, *others = inner
+    *before, last = inner
+    return [inner, inner[::-1], [last, *before], [first, *others[::-1]], shuffled(rng, inner)]
+
+
+def chain_row(n: int, chain: list[int], depths: list[int]) -> Words:
+    """A chain of inner nodes, from the root down; each sample hangs from it at this depth."""
+    parents = dict(zip(chain, [ROOT] + chain))
+    parents.update((sample, chain[depth]) for sample, depth in enumerate(depths))
+    return row_of_parents(n, parents)
+
+
+def falling_depths(n: int, deepest: int) -> list[int]:
+    """Depths of samples on a chain: the lowest sample is the deepest, each next one higher up."""
+    return [min(n - 1 - sample, deepest) for sample in range(n)]
+
+
+def end_depths(n: int, deepest: int) -> list[list[int]]:
+    """Depths of samples: the lowest, the highest, all or none are deepest, the others at 0."""
+    at_root = [0] * (n - 1)
+    return [[deepest, *at_root], [*at_root, deepest], [deepest] * n, [0] * n]
+
+
+def with_parent(row: Words, v: int, above: int) -> Words:
+    """The row with another parent of one node."""
+    return row[: 1 + v] + [above] + row[2 + v :]
+
+
+def bent_chain_rows(n: int, chain: list[int], depths: list[int]) -> list[Words]:
+    """Chains whose second node is below itself, below the third or below the last (for 9)."""
+    straight = chain_row(n, chain, depths)
+    return [with_parent(straight, chain[1], above) for above in (chain[1], chain[2], chain[-1])]
+
+
+def rings(rng: Random, nodes: list[int]) -> dict[int, int]:
+    """The parents of these nodes in one to three cycles."""
+    cycles = cut(rng, nodes, rng.randint(1, min(3, len(nodes))))
+    return {v: above for cycle in cycles for v, above in ring(cycle).items()}
+
+
+def lost_row(rng: Random, n: int, m: int, lost: set[int]) -> Words:
+    """A row of m nodes in which just these are lost: some inner ones, not all of them (for 9)."""
+    inner = shuffled(rng, list(range(n, m)))
+    root, *others = reaching = [v for v in inner if v not in lost]
+    missing = [v for v in inner if v in lost]
+    in_rings = rng.randint(1, len(missing))
+    parents = hung(rng, root, others) | rings(rng, missing[:in_rings])
+    parents.update((missing[i], rng.choice(missing[:i])) for i in range(in_rings, len(missing)))
+    for leaf in range(n):
+        parents[leaf] = rng.choice(missing if leaf in lost else reaching)
+    return row_of_parents(n, parents)
+
+
+def lost_samples(rng: Random, n: int) -> list[list[int]]:
+    """Samples that a row may lose: none, the lowest, the highest, some, all."""
+    some = rng.sample(range(n), rng.randint(1, n - 1))
+    return [[], [0], [n - 1], some, list(range(n))]
+
+
+def lost_inner(rng: Random, n: int, m: int) -> list[list[int]]:
+    """Inner nodes that a row may lose: the first, the last, some, all but one."""
+    inner = range(n, m)
+    some = rng.sample(inner, rng.randint(1, len(inner) - 1))
+    return [[n], [m - 1], some, rng.sample(inner, len(inner) - 1)]
+
+
+def lost_from(rng: Random, n: int, m: int, v: int) -> set[int]:
+    """Nodes that a row may lose: v is the lowest, and some are inner ones, but not all of these."""
+    root = rng.choice([u for u in range(n, m) if u != v])
+    higher = [u for u in range(v + 1, m) if u != root]
+    inner = v if v >= n else rng.choice([u for u in higher if u >= n])
+    share = rng.choice([0, 0.1, 0.5])
+    return {v, inner, *(u for u in higher if rng.random() < share)}
+
+
+def tree_parents(rng: Random, n: int, inner: list[int]) -> dict[int, int]:
+    """The parents of a tree that has these inner nodes."""
+    row = shuffled_row(rng, n, some_groups(rng, n, len(inner) - 1))
+    names = {ROOT: ROOT, **dict(enumerate([*range(n), *inner]))}
+    return {names[v]: names[row[1 + v]] for v in range(row[0])}
+
+
+def few_children_row(rng: Random, n: int, m: int, one: list[int], none: list[int]) -> Words:
+    """A row of m nodes: these inner ones have one child, these none, others more (for 10)."""
+    few = {*one, *none}
+    others = [v for v in range(n, m) if v not in few]
+    parents = tree_parents(rng, n, others)
+    for v in one:
+        root = next(u for u, above in parents.items() if above == ROOT)
+        below = rng.choice([root, *rng.sample(sorted(parents), 2)])
+        parents[v], parents[below] = parents[below], v
+    parents.update((v, rng.choice(others)) for v in none)
+    return row_of_parents(n, parents)
+
+
+def few_from(rng: Random, n: int, m: int, v: int) -> list[list[int]]:
+    """Inner nodes to have one child, and some to have none: v the lowest of both, not all."""
+    kept = rng.choice([u for u in range(n, m) if u != v])
+    few = [v, *(u for u in range(v + 1, m) if u != kept and rng.random() < 0.5)]
+    one = [u for u in few if rng.random() < 0.5]
+    return [one, [u for u in few if u not in one]]

@@ -70,6 +70,16 @@ def few_inner(rng: Random, n: int) -> Tree:
     return trivial_groups(n) | frozenset(kept)
 
 
+def some_groups(rng: Random, n: int, count: int) -> Tree:
+    """A tree with this many groups that are not trivial, n - 2 at most."""
+    return trivial_groups(n) | frozenset(rng.sample(proper_groups(binary(rng, n)), count))
+
+
+def one_group(rng: Random, n: int, size: int) -> Tree:
+    """A tree with one group of this size beside the trivial ones."""
+    return trivial_groups(n) | {frozenset(rng.sample(range(n), size))}
+
+
 SHAPES: list[Callable[[Random, int], Tree]] = [bare, binary, caterpillar, multifurcating, few_inner]
 
 

@@ -2,11 +2,12 @@
 
 from __future__ import annotations
 
-from itertools import combinations, islice
+from itertools import combinations, islice, product
 from random import Random
 
 import calls
 import calls_judge
+import calls_last_checks
 import calls_thresholds
 import material
 import rows
@@ -53,6 +54,117 @@ def test_moves_move() -> None:
     for n in (3, 5, 9):
         for tree in (shapes.any_tree(rng, n) for _ in range(50)):
             assert shapes.one_move(rng, n, tree) != tree
+
+
+# Rows for checks 9 and 10
+
+
+def children_of(row: rules.Words, v: int) -> list[int]:
+    """The nodes whose parent is v."""
+    return [u for u in range(row[0]) if row[1 + u] == v]
+
+
+def places(n: int) -> list[tuple[int, int]]:
+    """Every m that leaves two inner nodes or more, with each node."""
+    return [(m, v) for m in range(n + 2, 2 * n) for v in range(m)]
+
+
+def test_number_of_rows_with_root() -> None:
+    """With i inner nodes, one the root, all others have any of the i as their parent."""
+    for n in (2, 3, 4):
+        made = rows.rows_with_root(n)
+        assert len(made) == len(set(map(tuple, made))) == sum(i ** (n + i) for i in range(1, n))
+        refused = calls_last_checks.refused_rows(n)
+        assert len(refused) == len(made) - len(rows.valid_rows(n))
+        assert {rules.row_refusal(n, row)[0] for row in refused} <= {9, 10}
+
+
+def test_lost_rows() -> None:
+    """Rows made to lose some nodes lose just these, and are refused with 9 at the lowest."""
+    rng = Random(15)
+    for n in (3, 4, 5, 9, 14):
+        for m, v in places(n) * 5:
+            lost = rows.lost_from(rng, n, m, v)
+            row = rows.lost_row(rng, n, m, lost)
+            assert row[0] == m and lost == {*range(m)} - rules.reaching_root(row)
+            assert rules.row_refusal(n, row) == (9, v)
+
+
+def test_kinds_of_lost_nodes() -> None:
+    """Any samples and any inner nodes that a row may lose make a row that loses just these."""
+    rng = Random(16)
+    for n in (3, 4, 8, 13):
+        for m in range(n + 2, 2 * n):
+            for samples in rows.lost_samples(rng, n):
+                for inner in rows.lost_inner(rng, n, m):
+                    row = rows.lost_row(rng, n, m, {*samples, *inner})
+                    assert {*range(m)} - rules.reaching_root(row) == {*samples, *inner}
+                    assert rules.row_refusal(n, row) == (9, min(samples + inner))
+
+
+def test_rows_of_few_children() -> None:
+    """Rows made with one child or none of some nodes are refused with 10 at the lowest of these."""
+    rng = Random(17)
+    for n in (3, 4, 5, 9, 14):
+        for m, v in [(m, v) for m, v in places(n) if v >= n]:
+            for one, none in ([[v], []], [[], [v]], rows.few_from(rng, n, m, v)):
+                row = rows.few_children_row(rng, n, m, one, none)
+                counts = {u: len(children_of(row, u)) for u in range(n, m)}
+                assert [u for u in counts if counts[u] == 1] == one
+                assert [u for u in counts if counts[u] == 0] == none
+                assert rules.row_refusal(n, row) == (10, v)
+
+
+def test_chains() -> None:
+    """Samples of a chain are as deep as asked for; of a bent one all below the root are lost."""
+    rng = Random(18)
+    for n in (4, 7, 12):
+        for m in range(n + 3, 2 * n):
+            orders = rows.orders_of(rng, list(range(n, m)))
+            assert all(sorted(chain) == [*range(n, m)] for chain in orders)
+            for chain, depths in product(orders, calls_last_checks.all_depths(n, m - n - 1)):
+                row = rows.chain_row(n, chain, depths)
+                assert [chain.index(row[1 + sample]) for sample in range(n)] == depths
+                assert row == rows.with_parent(row, chain[1], chain[0])
+                lost = {*chain[1:], *(sample for sample in range(n) if depths[sample] > 0)}
+                for bent in rows.bent_chain_rows(n, chain, depths):
+                    assert {*range(m)} - rules.reaching_root(bent) == lost
+
+
+def test_deepest_trees() -> None:
+    """The deepest trees are valid, and the way up from sample 0 passes every inner node."""
+    for n in (3, 4, 9, 20):
+        for row in calls_last_checks.deepest(Random(19), n):
+            assert rules.row_refusal(n, row) is None and row[0] == 2 * n - 1
+            assert sum(0 in group for group in rules.groups_of(n, row)) == n
+
+
+def taken(call: calls.Call, place: int) -> tuple[str, rules.Words]:
+    """How a call took the row that it refuses at this place, and the row."""
+    if call.op != calls.COMPARE:
+        return calls.NAMES[call.op], call.buffers[1 if call.op == calls.ADD else 0]
+    first, second = call.buffers
+    return ("first", first) if place < len(first) else ("second", second)
+
+
+def bound(row: rules.Words, place: int) -> str:
+    """Which node of a row a place of 9 or 10 is."""
+    n = len(row) // 2
+    names = {0: "lowest", n - 1: "highest", n: "first", row[0] - 1: "last"}
+    return names.get(place % len(row), "other")
+
+
+def test_stored_places() -> None:
+    """Each call that takes a row has 9 and 10 at its first and last nodes, also with filler."""
+    came = {taker: set() for taker in ("add", "renumber", "first", "second", "judge")}
+    for call in calls_last_checks.stored():
+        number, place, *_ = calls.answer(call)
+        if number in (9, 10):
+            taker, row = taken(call, place)
+            came[taker].add((number, bound(row, place), row[0] == len(row) - 1))
+    inner = [*product([9, 10], ["first", "last", "other"], [False, True])]
+    wanted = {*inner, *product([9], ["lowest", "highest"], [False, True])}
+    assert all(numbers == wanted for numbers in came.values()), came
 
 
 # Runs

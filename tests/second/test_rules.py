@@ -151,10 +151,55 @@ ROWS_REFUSED = [
     (7, 0, [4, 3, 3, 3, 3, 1]),
     (8, 5, [4, 3, 3, 3, ROOT, 7]),
     (9, 0, [5, 4, 3, 3, ROOT, 4]),
+    (9, 2, [5, 3, 3, 4, ROOT, 4]),
+    (9, 3, [5, 4, 4, 4, 3, ROOT]),
     (9, 4, [5, 3, 3, 3, ROOT, 4]),
     (10, 3, [5, 4, 4, 4, ROOT, 3]),
+    (10, 3, [5, 3, 4, 4, 4, ROOT]),
+    (10, 3, [5, 4, 4, 4, 4, ROOT]),
     (10, 4, [5, 4, 3, 3, ROOT, 3]),
+    (10, 4, [5, 3, 3, 3, ROOT, 3]),
+    (10, 4, [5, 3, 3, 3, 4, ROOT]),
 ]
+
+
+def test_last_checks_of_four() -> None:
+    """RULES 7.5, lines 9 and 10: cycles of one and two nodes, few children, the deepest tree."""
+    cases = [
+        (9, 5, [7, 4, 4, 4, 4, ROOT, 6, 5]),
+        (9, 4, [7, 6, 6, 6, 6, 5, 4, ROOT]),
+        (9, 3, [7, 4, 4, 4, 6, ROOT, 6, 5]),
+        (9, 0, [7, 5, 4, 4, 4, ROOT, 6, 6]),
+        (9, 6, [7, 5, 5, 4, 4, ROOT, 4, 6]),
+        (10, 4, [7, 5, 6, 6, 5, ROOT, 4, 5]),
+        (10, 5, [7, 4, 4, 6, 6, ROOT, 4, 5]),
+        (10, 5, [7, 4, 4, 4, 4, ROOT, 4, 4]),
+        (10, 6, [7, 4, 4, 5, 5, ROOT, 4, 4]),
+        (0, 0, [7, 6, 6, 5, 4, ROOT, 4, 5]),
+        (0, 0, [7, 4, 4, 5, 6, 5, 6, ROOT]),
+    ]
+    for number, place, row in cases:
+        assert verdict(rules.judge(4, row)) == (number, place)
+        assert verdict(rules.compare(4, row, row)) == (number, place)
+
+
+def reaches_root(row: Words, v: int) -> bool:
+    """Whether as many steps up as there are nodes come to the root's mark."""
+    for _ in range(row[0]):
+        v = row[1 + v]
+        if v == ROOT:
+            return True
+    return False
+
+
+def test_lost_by_steps() -> None:
+    """RULES 7.5, line 9: the nodes that reach the root are those from which enough steps do."""
+    rng = Random(20)
+    made = [row for n in (3, 4) for row in rows.rows_with_root(n)]
+    made += [rows.lost_row(rng, n, n + 3, {n, n - 1}) for n in range(5, 40)]
+    for row in made:
+        by_steps = {v for v in range(row[0]) if reaches_root(row, v)}
+        assert rules.reaching_root(row) == by_steps
 
 
 def test_lengths() -> None:
@@ -430,6 +475,13 @@ def test_refused_slots() -> None:
         assert listed(files.file_of(3, [good, [0] + row])) == b"refused 4 1 0\n"
     assert listed(files.file_of(3, [good, other, good])) == b"refused 11 2 0\n"
     assert listed(files.file_of(3, [[0] + WITH_01, good, good])) == b"refused 4 0 0\n"
+
+
+def test_slots_refused_by_last_checks() -> None:
+    """The files made for 9 and 10 are refused so: of each n four with 9, then two with 10."""
+    made = list(files.refused_by_last_checks(Random(1)))
+    numbers = [listing.number_in(listed(data)) for data in made]
+    assert numbers == [9, 9, 9, 9, 10, 10] * (len(made) // 6)
 
 
 def test_more_slots_than_runs() -> None:
