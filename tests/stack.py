@@ -19,13 +19,14 @@ BOUND, MEASURED = "stack at most, bytes", "measured"  # heads of columns
 OF_ANY = r"(\d+) KiB of stack"
 OF_JUDGING = r"arb_judge no more than ([\d,]+) bytes"
 KIB = 1024
-# A bound may lie above what was measured as far as the next multiple of a step: a fine one as long as that is less than the coarse one.
-FINE, COARSE = 8, 1024
+# A bound may lie above what was measured as far as the next multiple of a step. That of judging is exact: the stack moves by 8 bytes.
+STEPS = {"judge": 8, "open": 64}
+OTHER_STEP = 1024
 
 
-def rounded_up(count: int) -> int:
-    """The highest bound that is allowed where so many bytes were measured."""
-    step = FINE if count < COARSE else COARSE
+def rounded_up(call: str, count: int) -> int:
+    """The highest bound that a call may have where so many bytes were measured."""
+    step = STEPS.get(call, OTHER_STEP)
     return -(-count // step) * step
 
 
@@ -64,10 +65,11 @@ def measure(trials: Trials) -> dict[str, int]:
     return {name: int(count) for name, count in re.findall(r"^(\w+) (\d+)$", out, re.MULTILINE)}
 
 
-def test_bound(trials: Trials, what: str, taken: int, bound: int) -> None:
-    """So many bytes are within the bound, and the bound is close to them."""
-    trials.expect(f"{what}: {taken} bytes are within the bound of {bound}", True, taken <= bound)
-    trials.expect(f"{what}: the bound of {bound} is no more than {rounded_up(taken)}, for {taken} bytes", True, bound <= rounded_up(taken))
+def test_bound(trials: Trials, call: str, where: str, taken: int, bound: int) -> None:
+    """So many bytes are within the call's bound, and the bound is close to them."""
+    most = rounded_up(call, taken)
+    trials.expect(f"{call}{where}: {taken} bytes are within the bound of {bound}", True, taken <= bound)
+    trials.expect(f"{call}{where}: the bound of {bound} is no more than {most}, for {taken} bytes", True, bound <= most)
 
 
 def test_tables(trials: Trials, taken: dict[str, int]) -> None:
@@ -77,8 +79,8 @@ def test_tables(trials: Trials, taken: dict[str, int]) -> None:
         trials.expect(f"{what} of every call", sorted(CALLS), sorted(known))
     trials.expect(f"the bounds of {USING}", bounds, column(USING, "Sizes and costs", BOUND))
     for call in CALLS:
-        test_bound(trials, call, taken.get(call, 0), bounds.get(call, 0))
-        test_bound(trials, f"{call}, as {PERFORMANCE} says", written.get(call, 0), bounds.get(call, 0))
+        test_bound(trials, call, "", taken.get(call, 0), bounds.get(call, 0))
+        test_bound(trials, call, f", as {PERFORMANCE} says", written.get(call, 0), bounds.get(call, 0))
 
 
 def test_sentences(trials: Trials) -> None:
