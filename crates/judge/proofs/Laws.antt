@@ -49,12 +49,15 @@ module _ (n : ℕ) (r : Answer) (e : verdict r ≡ asked (check1 n)) (q : r ≡ 
   pub passed1-most : n ≤ mostSamples
   passed1-most = passed1 .1
 
+nodes-within : (n : ℕ) (row : List ℕ) → check5 n row .fault ≡ nowhere → fewestSamples ≤ n → length row ≡ rowWords n → nodes row < length row
+nodes-within n row p h l = omega (arith, outside-not (n + 1) (rowWords n - 1) (nodes row) (line-passes 5 _ p))
+
 module _ (n : ℕ) (row : List ℕ) (r : Answer) where
   pub passed3 : verdict r ≡ asked (check3 n row) → r ≡ Accepted → length row ≡ rowWords n
   passed3 e q = eqb-true (length row) (rowWords n) (not-false _ (line-passes 3 _ (passes r (check3 n row) e q)))
 
   pub passed5 : verdict r ≡ asked (check5 n row) → r ≡ Accepted → fewestSamples ≤ n → length row ≡ rowWords n → nodes row < length row
-  passed5 e q h l = omega (arith, outside-not (n + 1) (rowWords n - 1) (nodes row) (line-passes 5 _ (passes r (check5 n row) e q)))
+  passed5 e q = nodes-within n row (passes r (check5 n row) e q)
 
 -- ---- the checks of a row: 5 to 8, then 9 and 10 in either form
 
@@ -69,10 +72,7 @@ module _ (n : ℕ) (row : List ℕ) (a : Answer) (e : verdict a ≡ wordChecks n
   module _ (q : a ≡ Accepted) where
     -- a row that passes 5 to 8 has its nodes within its words, and parents among its nodes
     pub words-nodes : fewestSamples ≤ n → length row ≡ rowWords n → nodes row < length row
-    words-nodes h l = omega (
-      arith,
-      outside-not (n + 1) (rowWords n - 1) (nodes row) (line-passes 5 _ (chain-passed (wordChecks n row) (sym e ∙ ap verdict q) .0)),
-    )
+    words-nodes = nodes-within n row (chain-passed (wordChecks n row) (sym e ∙ ap verdict q) .0)
 
     pub words-closed : Closed (nodes row) row
     words-closed = check6-closed n row (chain-passed (wordChecks n row) (sym e ∙ ap verdict q) .1 .0)
