@@ -1,19 +1,14 @@
 -- `quick::climbing::mark` marks only nodes that come to the root, since the way up from v does; with each there is one unmarked node fewer. Assumes nothing.
-use Prim.Native.Nat.{_<_}
-use mathlib.Core.Path.{_≡_, _∙_}
-use mathlib.Core.Bool.{true}
 use native.Mathlib.Omega.{arith}
 use borrow.Author.Tests.{ne-eqb}
-use Rattle.trees.specs.Rows.{nodes, ends}
-use Rattle.trees.specs.WayLaws.{ends-step}
-use Rattle.quick.specs.Marking.{Marked, unmarked}
-use Rattle.quick.specs.MarkingLaws.{marked-more, unmarked-fewer}
+use Rattle.quick.specs.Marking.{MarkedTo, unmarked}
+use Rattle.quick.specs.MarkingLaws.{marked-more, marked-up, unmarked-fewer}
 use borrow.Author.Needs.{needs}
 use Rattle.quick.proofs.climbing.mark.Statement.{statement}
 use Rattle.quick.proofs.climbing.mark.Tie as tie
 
 abbrev Inv-loop : tie.InvT-loop
-Inv-loop row marks₀ v at₀ marks at = (at < nodes row) × (ends (nodes row) row at ≡ true) × Marked row marks
+Inv-loop row marks₀ v at₀ marks at = MarkedTo row at marks
 
 abbrev μ-loop : tie.MeasureT-loop
 μ-loop row marks₀ v at₀ marks at = unmarked row marks
@@ -37,28 +32,22 @@ parent-requires : tie.Need-parent-requires Inv-loop μ-loop
 parent-requires c κs = search needs
 
 returns : tie.Need-returns Inv-loop μ-loop
-returns c = let l = c .before .before .before .before .loop in marked-more _ _ (l .inv .2) _ 1 (l .inv .1)
+returns c = let k = c .before .before .before .before .loop .inv in marked-more _ _ (k .marked) _ 1 (k .comes)
 
 loop-less : tie.Need-loop-less Inv-loop μ-loop
 loop-less c =
     let turn = c .before .before .before in
-    let l = turn .before .loop in
-    unmarked-fewer _ _ (l .inv .2) _ 1 (turn .before .before .before .pre .0 .fits) (l .inv .0) (λ e. omega arith) (c .before .before .if1 .taken)
+    let k = turn .before .loop .inv in
+    unmarked-fewer _ _ (k .marked) _ 1 (turn .before .before .before .pre .0 .fits) (k .node) (λ e. omega arith) (c .before .before .if1 .taken)
 
 loop-again : tie.Need-loop-again Inv-loop μ-loop
 loop-again c =
     let turn = c .before .before .before in
-    let l = turn .before .loop in
-    let closed = turn .before .before .before .pre .0 .closed in
     let p = c .before .parent .ensures in
-    let e = rw p at (ne-eqb _ _ (c .if2 .left)) in (
-      rw p (closed _ (l .inv .0) e),
-      rw p (ends-step _ _ closed _ (l .inv .0) e ∙ l .inv .1),
-      marked-more _ _ (l .inv .2) _ 1 (l .inv .1),
-    )
+    rw p (marked-up _ _ _ 1 (turn .before .before .before .pre .0) (turn .before .loop .inv) (rw p at (ne-eqb _ _ (c .if2 .left))))
 
 returns-2 : tie.Need-returns-2 Inv-loop μ-loop
-returns-2 c = c .before .before .loop .inv .2
+returns-2 c = c .before .before .loop .inv .marked
 
 pub mark-spec : {M : Type 1} → statement M
 mark-spec =

@@ -1,17 +1,16 @@
 -- `quick::climbing::reaches` follows the parents: the way that is left ends exactly if the whole way does, in the steps left and at all. Assumes nothing.
-use Prim.Native.Nat.{_<_}
-use mathlib.Core.Path.{_≡_, refl, sym, _∙_}
+use mathlib.Core.Path.{refl}
 use native.Mathlib.Omega.{arith}
-use Rattle.trees.specs.Rows.{nodes, parent, ends}
+use Rattle.trees.specs.Rows.{nodes, parent}
 use borrow.Author.Tests.{eq-eqb, ne-eqb}
-use Rattle.trees.specs.ScanLaws.{ends-root, ends-parent}
-use Rattle.trees.specs.WayLaws.{ends-none, ends-step}
 use borrow.Author.Needs.{needs}
+use Rattle.quick.specs.Marking.{Climbed}
+use Rattle.quick.specs.MarkingLaws.{climbed-up, climbed-root, climbed-known, climbed-out}
 use Rattle.quick.proofs.climbing.reaches.Statement.{statement}
 use Rattle.quick.proofs.climbing.reaches.Tie as tie
 
 abbrev Inv-loop : tie.InvT-loop
-Inv-loop row marks v at₀ left₀ at left = (at < nodes row) × (ends left row at ≡ ends (nodes row) row v) × (ends (nodes row) row at ≡ ends (nodes row) row v)
+Inv-loop row marks v at₀ left₀ at left = Climbed row v left at
 
 abbrev μ-loop : tie.MeasureT-loop
 μ-loop row marks v at₀ left₀ at left = left
@@ -20,7 +19,7 @@ nodes-requires : tie.Need-nodes-requires Inv-loop μ-loop
 nodes-requires c κs = search needs
 
 loop-holds : tie.Need-loop-holds Inv-loop μ-loop
-loop-holds c = (search needs, rw (c .nodes .ensures), refl)
+loop-holds c = record { node = search needs; within = rw (c .nodes .ensures); ever = refl }
 
 mul-if1 : tie.Need-mul-if1 Inv-loop μ-loop
 mul-if1 c = search needs
@@ -31,15 +30,15 @@ element-copy-out-if1 c = search needs
 returns : tie.Need-returns Inv-loop μ-loop
 returns c =
     let l = c .before .before .before .loop in
-    sym (c .before .before .before .before .before .before .pre .1 .known _ (l .inv .0) (c .if1 .taken)) ∙ l .inv .2
+    climbed-known _ _ _ _ (l .inv) _ (c .before .before .before .before .before .before .pre .1) (c .if1 .taken)
 
 parent-requires : tie.Need-parent-requires Inv-loop μ-loop
 parent-requires c κs = search needs
 
 returns-2 : tie.Need-returns-2 Inv-loop μ-loop
 returns-2 c =
-    let l = c .before .before .before .before .before .loop in
-    sym (ends-root _ _ _ (c .before .before .before .before .loop-test .taken) (rw (c .before .parent .ensures) at (eq-eqb _ _ (c .if2 .taken)))) ∙ l .inv .1
+    let turn = c .before .before .before .before in
+    climbed-root _ _ _ _ (turn .before .loop .inv) (turn .loop-test .taken) (rw (c .before .parent .ensures) at (eq-eqb _ _ (c .if2 .taken)))
 
 sub-left : tie.Need-sub-left Inv-loop μ-loop
 sub-left c = search needs
@@ -50,20 +49,12 @@ loop-less c = search needs
 loop-again : tie.Need-loop-again Inv-loop μ-loop
 loop-again c =
     let turn = c .before .before .before .before in
-    let l = turn .before .loop in
-    let closed = turn .before .before .before .before .pre .0 .closed in
     let p = c .before .parent .ensures in
-    let e = rw p at (ne-eqb _ _ (c .if2 .left)) in (
-      rw p (closed _ (l .inv .0) e),
-      rw p (sym (ends-parent _ _ _ (turn .loop-test .taken) e) ∙ l .inv .1),
-      rw p (ends-step _ _ closed _ (l .inv .0) e ∙ l .inv .2),
-    )
+    let laid = turn .before .before .before .before .pre .0 in
+    rw p (climbed-up _ _ _ _ (turn .before .loop .inv) laid (turn .loop-test .taken) (rw p at (ne-eqb _ _ (c .if2 .left))))
 
 returns-3 : tie.Need-returns-3 Inv-loop μ-loop
-returns-3 c =
-    let l = c .before .loop in
-    let e : l .left ≡ 0 = omega arith in
-    rw (← l .inv .1, e, ends-none)
+returns-3 c = climbed-out _ _ _ _ (c .before .loop .inv) (omega arith)
 
 pub reaches-spec : {M : Type 1} → statement M
 reaches-spec =
