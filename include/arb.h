@@ -126,8 +126,9 @@ uint64_t arb_judge(size_t n, const uint16_t *row, size_t row_length);
    Refusals: 1, 3 for either buffer, 5 to 10. */
 uint64_t arb_renumber(size_t n, const uint16_t *row, size_t row_length, uint16_t *out, size_t out_length);
 
-/* Comparing: how many groups both rows have, the first alone, and the second alone (RULES 8). Every group counts, those of one
-   sample and of all samples among them. Writes nothing.
+/* Comparing: how many groups both rows have, the first alone, and the second alone (RULES 8). Groups of more than one sample and
+   fewer than all count, each once, and no others: so each count is at most n - 2. The last two together are the distance of the two
+   trees: by how many groups they differ. Writes nothing.
    Refusals: 1, 3 for either row, then 5 to 10, of `first` and after that of `second`; there 2n is added to every place, that of 5 and 7 too. */
 uint64_t arb_compare(size_t n, const uint16_t *first, size_t first_length, const uint16_t *second, size_t second_length);
 

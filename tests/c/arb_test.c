@@ -108,9 +108,17 @@ static const struct example accepted[] = {
     {"another numbering is renumbered", RENUMBER, 3, ACCEPTED, {ROW_3(WITH_01_OTHERWISE), ROW_3(OLD_6)}, {NONE, ROW_3(WITH_01)}},
     {"run 2 is renumbered", RENUMBER, 5, ACCEPTED, {ROW_5(RUN_2_OTHERWISE), ROW_5(OLD_10)}, {NONE, ROW_5(RUN_2)}},
     {"a standard row is renumbered to itself", RENUMBER, 5, ACCEPTED, {ROW_5(RUN_3), ROW_5(OLD_10)}, {NONE, ROW_5(RUN_3)}},
-    {"runs 1 and 2 are compared", COMPARE, 5, COUNTED(7, 1, 1), {ROW_5(RUN_1), ROW_5(RUN_2)}},
-    {"runs 3 and 1 are compared", COMPARE, 5, COUNTED(7, 2, 1), {ROW_5(RUN_3), ROW_5(RUN_1)}},
-    {"a tree is compared with itself", COMPARE, 3, COUNTED(5, 0, 0), {ROW_3(WITH_01), ROW_3(WITH_01_OTHERWISE)}},
+    {"runs 1 and 2 are compared", COMPARE, 5, COUNTED(1, 1, 1), {ROW_5(RUN_1), ROW_5(RUN_2)}},
+    {"runs 2 and 1 are compared, in another numbering", COMPARE, 5, COUNTED(1, 1, 1), {ROW_5(RUN_2_OTHERWISE), ROW_5(RUN_1)}},
+    {"runs 1 and 3 are compared", COMPARE, 5, COUNTED(1, 1, 2), {ROW_5(RUN_1), ROW_5(RUN_3)}},
+    {"runs 3 and 1 are compared", COMPARE, 5, COUNTED(1, 2, 1), {ROW_5(RUN_3), ROW_5(RUN_1)}},
+    {"run 3, with a group of four of five samples, is compared with itself", COMPARE, 5, COUNTED(3, 0, 0), {ROW_5(RUN_3), ROW_5(RUN_3)}},
+    {"run 3 is compared with the bare tree", COMPARE, 5, COUNTED(0, 3, 0), {ROW_5(RUN_3), ROW_5(AGREED_BY_ALL)}},
+    {"a tree is compared with itself", COMPARE, 3, COUNTED(1, 0, 0), {ROW_3(WITH_01), ROW_3(WITH_01_OTHERWISE)}},
+    {"trees that agree on nothing are compared", COMPARE, 3, COUNTED(0, 1, 1), {ROW_3(WITH_01), ROW_3(WITH_02)}},
+    {"the bare tree is compared with another", COMPARE, 3, COUNTED(0, 0, 1), {ROW_3(BARE_3), ROW_3(WITH_01)}},
+    {"the bare tree is compared with itself", COMPARE, 3, COUNTED(0, 0, 0), {ROW_3(BARE_3), ROW_3(BARE_3)}},
+    {"the only tree of 2 is compared with itself", COMPARE, 2, COUNTED(0, 0, 0), {{4, {ONLY_OF_2}}, {4, {ONLY_OF_2}}}},
 };
 
 static const struct example refused[] = {
@@ -351,7 +359,9 @@ static void test_deepest(void) {
     static uint16_t out[WIDE_ROW];
     uint64_t answer = arb_renumber(WIDE, chain_up, WIDE_ROW, out, WIDE_ROW);
     check("the deepest tree is renumbered", same_answer(ACCEPTED, answer) && memcmp(out, chain_down, sizeof out) == 0);
-    check("it is compared with itself", same_answer(COUNTED(LAST + 1, 0, 0), arb_compare(WIDE, chain_down, WIDE_ROW, chain_up, WIDE_ROW)));
+    check("it is compared with itself", same_answer(COUNTED(END, 0, 0), arb_compare(WIDE, chain_down, WIDE_ROW, chain_up, WIDE_ROW)));
+    check("it is compared with the bare tree", same_answer(COUNTED(0, END, 0), arb_compare(WIDE, chain_up, WIDE_ROW, wide_rows[0], WIDE_ROW)));
+    check("{0,1} is compared with it", same_answer(COUNTED(1, 0, END - 1), arb_compare(WIDE, wide_rows[1], WIDE_ROW, chain_up, WIDE_ROW)));
 }
 
 // Whether every call that takes a row refuses this one, of 512 samples; comparing, in either place.

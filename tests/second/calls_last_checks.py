@@ -1,4 +1,4 @@
-"""The calls with rows that get as far as checks 9 and 10 (RULES 7.5), stored after all others."""
+"""The calls with rows that get as far as checks 9 and 10 (RULES 7.5), stored after each op's."""
 
 from __future__ import annotations
 

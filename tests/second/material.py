@@ -9,6 +9,7 @@ from typing import Callable, Iterator, NamedTuple
 import calls_compare
 import calls_judge
 import calls_last_checks
+import calls_nontrivial
 import calls_renumber
 import calls_report
 import calls_studies
@@ -47,6 +48,9 @@ MATERIAL = [
 # Those whose calls are not stored yet: a line moved from here to there stores them.
 LATER: list[Material] = []
 
+# Calls stored behind all of these, in this order: what was stored before stays the first bytes.
+APPENDED: list[Callable[[], Iterator[Call]]] = [calls_last_checks.stored, calls_nontrivial.stored]
+
 SEED = 20250  # with the op's number added, so that no op's calls depend on another's
 
 
@@ -70,10 +74,11 @@ def material_of(ops: list[int]) -> list[Material]:
 
 
 def stored_calls(ops: list[int]) -> Iterator[Call]:
-    """All calls of these ops that are stored, in their order: op by op, then those of several."""
+    """All calls of these ops that are stored, in their order: op by op, then those appended."""
     for material in material_of(ops):
         yield from material.stored(Random(SEED + material.op))
-    yield from (call for call in calls_last_checks.stored() if call.op in ops)
+    for stored in APPENDED:
+        yield from (call for call in stored() if call.op in ops)
 
 
 def random_calls(rng: Random, ops: list[int], count: int) -> Iterator[Call]:

@@ -179,6 +179,11 @@ def groups_of(n: int, row: Words) -> Tree:
     return frozenset(frozenset(samples) for samples in below)
 
 
+def nontrivial(n: int, tree: Tree) -> Tree:
+    """The groups of a tree with more than one sample and fewer than all (RULES 3.3)."""
+    return frozenset(group for group in tree if 1 < len(group) < n)
+
+
 def agree(one: Group, other: Group) -> bool:
     """Whether two groups are in agreement (RULES 3.4)."""
     return one <= other or other <= one or not one & other
@@ -250,8 +255,8 @@ def compare(n: int, first: Words, second: Words) -> Answer:
     )
     if refusal:
         return refused(refusal, [first, second])
-    # RULES 8.2: trivial groups too.
-    one, other = groups_of(n, first), groups_of(n, second)
+    # RULES 8.2: no trivial groups; in a set each counts once, however many nodes have it.
+    one, other = nontrivial(n, groups_of(n, first)), nontrivial(n, groups_of(n, second))
     return accepted([first, second], (len(one & other), len(one - other), len(other - one)))
 
 

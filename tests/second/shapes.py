@@ -25,9 +25,9 @@ def cut(rng: Random, block: list[int], parts: int) -> list[list[int]]:
     return [block[start:end] for start, end in zip([0] + cuts, cuts + [len(block)])]
 
 
-def split_tree(rng: Random, n: int, most: int) -> Tree:
-    """A tree whose inner nodes have 2 to `most` children each."""
-    groups, waiting = set(), [shuffled(rng, list(range(n)))]
+def split(rng: Random, samples: list[int], most: int) -> Tree:
+    """The groups of a tree of these samples whose inner nodes have 2 to `most` children each."""
+    groups, waiting = set(), [shuffled(rng, samples)]
     while waiting:
         block = waiting.pop()
         groups.add(frozenset(block))
@@ -36,10 +36,20 @@ def split_tree(rng: Random, n: int, most: int) -> Tree:
     return frozenset(groups)
 
 
+def split_tree(rng: Random, n: int, most: int) -> Tree:
+    """A tree whose inner nodes have 2 to `most` children each."""
+    return split(rng, list(range(n)), most)
+
+
 def trivial_groups(n: int) -> Tree:
     """The groups that every tree has: the single samples and the whole."""
     singles = (frozenset([sample]) for sample in range(n))
     return frozenset([*singles, frozenset(range(n))])
+
+
+def tree_of(n: int, *groups: Group) -> Tree:
+    """The tree with these groups beside the trivial ones; they have to agree."""
+    return trivial_groups(n) | {*groups}
 
 
 def bare(rng: Random, n: int) -> Tree:
@@ -52,9 +62,23 @@ def binary(rng: Random, n: int) -> Tree:
     return split_tree(rng, n, 2)
 
 
+def binary_with(rng: Random, n: int, group: Group) -> Tree:
+    """A tree in which every inner node has two children, and one of them this group."""
+    one = min(group)
+    # The group is split by itself; outside, one of its samples stands for all of them.
+    around = split(rng, [one, *sorted(set(range(n)) - group)], 2)
+    grown = frozenset(other | group if one in other else other for other in around)
+    return split(rng, sorted(group), 2) | grown
+
+
 def caterpillar(rng: Random, n: int) -> Tree:
     """The deepest tree: each group is the one below it and one more sample."""
-    order = shuffled(rng, list(range(n)))
+    return caterpillar_of(shuffled(rng, list(range(n))))
+
+
+def caterpillar_of(order: list[int]) -> Tree:
+    """The deepest tree in which samples come together in this order."""
+    n = len(order)
     return trivial_groups(n) | {frozenset(order[:size]) for size in range(2, n)}
 
 

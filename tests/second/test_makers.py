@@ -2,12 +2,16 @@
 
 from __future__ import annotations
 
-from itertools import combinations, islice, product
+from collections import Counter
+from functools import lru_cache
+from itertools import combinations, islice, permutations, product
 from random import Random
+from typing import NamedTuple
 
 import calls
 import calls_judge
 import calls_last_checks
+import calls_nontrivial
 import calls_thresholds
 import material
 import rows
@@ -17,6 +21,7 @@ import shapes
 import studies
 import thresholds
 from rules import ROOT
+from specimens import RUNS_OF_5
 
 EVERY_OP = [calls.OPEN, calls.ADD, calls.WITHDRAW, calls.REPORT]
 EVERY_OP += [calls.JUDGE, calls.RENUMBER, calls.COMPARE]
@@ -54,6 +59,17 @@ def test_moves_move() -> None:
     for n in (3, 5, 9):
         for tree in (shapes.any_tree(rng, n) for _ in range(50)):
             assert shapes.one_move(rng, n, tree) != tree
+
+
+def test_binary_trees_with_a_group() -> None:
+    """A binary tree made around a group is valid, has it, and as many groups as there can be."""
+    rng = Random(21)
+    for n in (2, 3, 5, 9):
+        for size in range(1, n + 1):
+            group = frozenset(rng.sample(range(n), size))
+            tree = shapes.binary_with(rng, n, group)
+            assert rules.judge(n, rows.standard_row(n, tree)).number == 0
+            assert group in tree and len(tree) == 2 * n - 1
 
 
 # Rows for checks 9 and 10
@@ -165,6 +181,134 @@ def test_stored_places() -> None:
     inner = [*product([9, 10], ["first", "last", "other"], [False, True])]
     wanted = {*inner, *product([9], ["lowest", "highest"], [False, True])}
     assert all(numbers == wanted for numbers in came.values()), came
+
+
+# Comparing
+
+
+class Compared(NamedTuple):
+    """The trees of a comparison that is accepted."""
+
+    n: int
+    first: rules.Tree
+    second: rules.Tree
+
+
+def trees_compared(call: calls.Call) -> Compared:
+    """The trees that a call compares."""
+    return Compared(call.x, *(rules.groups_of(call.x, row) for row in call.buffers))
+
+
+@lru_cache(maxsize=1)
+def stored_comparisons() -> list[tuple[calls.Call, rules.Answer]]:
+    """The calls that calls_nontrivial stores, each with its answer."""
+    return [(call, calls.answer(call)) for call in calls_nontrivial.stored()]
+
+
+@lru_cache(maxsize=1)
+def accepted_comparisons() -> list[Compared]:
+    """The trees of those that are accepted."""
+    return [trees_compared(call) for call, answer in stored_comparisons() if answer.number == 0]
+
+
+def placed_groups(compared: Compared) -> list[tuple[str, rules.Group]]:
+    """The groups of both trees; and the group of one of them, if they differ in that alone."""
+    _, one, other = compared
+    placed = [("both", group) for group in one & other]
+    if len(one ^ other) == 1:
+        placed += [("first", group) for group in one - other]
+        placed += [("second", group) for group in other - one]
+    return placed
+
+
+PLACES = ["both", "first", "second"]
+
+
+def test_stored_sizes_of_groups() -> None:
+    """A group of each size, from two samples to all but one, is in both trees, and in either."""
+    rng = Random(calls_nontrivial.SEED)
+    made = [*calls_nontrivial.groups_of_each_size(rng), *calls_nontrivial.widest_trees(rng)]
+    came = set()
+    for compared in map(trees_compared, made):
+        came |= {(compared.n, place, len(group)) for place, group in placed_groups(compared)}
+    wanted = {(rules.MOST_SAMPLES, *each) for each in product(PLACES, calls_nontrivial.LACKED)}
+    for n in calls_nontrivial.EACH_SIZE:
+        wanted |= {(n, *each) for each in product(PLACES, range(2, n))}
+    assert wanted <= came
+
+
+def test_stored_samples_in_turn() -> None:
+    """Each sample is the one that a group lacks, and in a group of two, in each place."""
+    lacked, in_two = set(), set()
+    for compared in accepted_comparisons():
+        n, whole = compared.n, frozenset(range(compared.n))
+        for place, group in placed_groups(compared):
+            if len(group) == n - 1:
+                lacked.add((n, place, *(whole - group)))
+            if len(group) == 2:
+                in_two |= {(n, place, sample) for sample in group}
+    wanted = {(n, *each) for n in calls_nontrivial.EACH_SIZE for each in product(PLACES, range(n))}
+    assert wanted <= lacked and wanted <= in_two
+
+
+def test_stored_lone_groups() -> None:
+    """Lone groups of two samples and of all but one: in both, against none, against another."""
+    came = set()
+    for compared in accepted_comparisons():
+        proper = [shapes.proper_groups(tree) for tree in (compared.first, compared.second)]
+        if max(map(len, proper)) == 1:
+            sizes = [sum(map(len, groups)) for groups in proper]
+            came.add((compared.n, *sizes, proper[0] == proper[1]))
+    for n in calls_nontrivial.EACH_SIZE:
+        for size in (2, n - 1):
+            assert {(n, size, size, True), (n, size, size, False)} <= came
+            assert {(n, size, 0, False), (n, 0, size, False)} <= came
+
+
+def test_stored_counts_of_nodes() -> None:
+    """Rows of each m are compared with rows of each m."""
+    came = {(call.x, *(row[0] for row in call.buffers)) for call, _ in stored_comparisons()}
+    for n in calls_nontrivial.EACH_COUNT:
+        assert {(n, *counts) for counts in product(range(n + 1, 2 * n), repeat=2)} <= came
+
+
+def test_stored_orders() -> None:
+    """Two trees are compared in one order as often as in the other, and so are refused rows."""
+    trees = Counter(accepted_comparisons())
+    assert trees == Counter(Compared(n, second, first) for n, first, second in trees.elements())
+    refused = [(call, answer.place) for call, answer in stored_comparisons() if answer.number]
+    places = Counter(taken(call, place)[0] for call, place in refused)
+    against_itself = sum(call.buffers[0] == call.buffers[1] for call, _ in refused)
+    assert places["first"] - against_itself == places["second"] > 0
+
+
+def test_stored_numberings() -> None:
+    """Every row of up to four samples is compared with its own tree, and in turn with another."""
+    same, before, after = set(), set(), set()
+    for call in calls_nontrivial.every_numbering(Random(1)):
+        n, one, other = trees_compared(call)
+        first, second = ((n, *row) for row in call.buffers)
+        if one == other:
+            same.add(first)
+        else:
+            before.add(first)
+            after.add(second)
+    every = {(n, *row) for n in calls_nontrivial.EVERY_NUMBERING for row in rows.valid_rows(n)}
+    # Two samples have no other tree.
+    assert same == every and before == after == {row for row in every if row[0] > 2}
+
+
+def test_stored_threes() -> None:
+    """Three trees are compared each with each, and no two are farther apart than by the third."""
+    made = calls_nontrivial.three_trees(Random(1))
+    while six := list(islice(made, 6)):
+        (n, one, other), (_, _, third), *_ = map(trees_compared, six)
+        pairs = [*permutations([one, other, third], 2)]
+        assert [trees_compared(call) for call in six] == [(n, *pair) for pair in pairs]
+        counts = [calls.answer(call).counts for call in six]
+        apart = {pair: first + second for pair, (_, first, second) in zip(pairs, counts)}
+        for start, way, end in permutations([one, other, third]):
+            assert apart[start, end] <= apart[start, way] + apart[way, end]
 
 
 # Runs
@@ -400,5 +544,5 @@ def test_bytes_of_three_buffers() -> None:
     assert calls.reply_words(calls.answer(call)) == reply
     call = calls.Call(calls.COMPARE, 2, [[3, 2, 2, ROOT], [3, 2, 2, 2]])
     assert calls.reply_words(calls.answer(call))[:6] == [7, 4, 0, 0, 0, 0]
-    call = calls.Call(calls.COMPARE, 2, [[3, 2, 2, ROOT], [3, 2, 2, ROOT]])
-    assert calls.reply_words(calls.answer(call))[:6] == [0, 0, 0, 3, 0, 0]
+    call = calls.Call(calls.COMPARE, 5, [RUNS_OF_5[2], [8, 6, 6, 5, 7, 7, ROOT, 5, 5, 0]])
+    assert calls.reply_words(calls.answer(call))[:6] == [0, 0, 0, 2, 1, 0]

@@ -124,11 +124,111 @@ def test_sizes() -> None:
         assert reported(added(opened(n, 3000), 1, row), n)[0] == row
 
 
+# Comparing
+
+
+def compared(n: int, first: Tree, second: Tree) -> tuple[int, int, int]:
+    """The counts of two trees."""
+    answer = rules.compare(n, rows.standard_row(n, first), rows.standard_row(n, second))
+    assert verdict(answer) == (0, 0)
+    return answer.counts
+
+
+def pairs_of_four() -> list[tuple[Tree, Tree]]:
+    """Every tree of four samples with every one."""
+    return [*product(rows.every_tree(4), repeat=2)]
+
+
 def test_comparing() -> None:
     """RULES 10.6: run 1 against run 2, and others."""
-    assert rules.compare(5, RUN_1, RUN_2) == (0, 0, (7, 1, 1), [RUN_1, RUN_2])
-    assert rules.compare(5, RUN_3, RUN_1).counts == (7, 2, 1)
-    assert rules.compare(5, RUN_2, RUN_2).counts == (8, 0, 0)
+    assert rules.compare(5, RUN_1, RUN_2) == (0, 0, (1, 1, 1), [RUN_1, RUN_2])
+    assert rules.compare(5, RUN_1, RUN_3).counts == (1, 1, 2)
+    assert rules.compare(5, RUN_3, RUN_1).counts == (1, 2, 1)
+
+
+def test_comparing_two_samples() -> None:
+    """RULES 8.2: of two samples all groups are trivial."""
+    answer = rules.compare(2, ONLY_TREE_OF_2, ONLY_TREE_OF_2)
+    assert answer == (0, 0, (0, 0, 0), [ONLY_TREE_OF_2, ONLY_TREE_OF_2])
+
+
+def test_comparing_with_itself() -> None:
+    """RULES 8.2: a tree shares with itself its groups that are not trivial."""
+    cases = [(3, BARE_3, 0), (3, WITH_01, 1), (5, RUN_1, 2), (5, RUN_2, 2), (5, RUN_3, 3)]
+    for n, row, groups in cases:
+        assert rules.compare(n, row, row).counts == (groups, 0, 0)
+    other_numbering = [5, 3, 3, 4, 4, ROOT]
+    assert rules.compare(3, other_numbering, WITH_01).counts == (1, 0, 0)
+
+
+def test_comparing_all_but_one() -> None:
+    """RULES 11.10: a group of n-1 samples counts, whichever sample it leaves out."""
+    for n, left_out in [*product([3, 4, 7], [0, 1, 2]), (512, 0), (512, 511)]:
+        bare, whole = shapes.tree_of(n), frozenset(range(n))
+        tree = shapes.tree_of(n, whole - {left_out})
+        other = shapes.tree_of(n, whole - {(left_out + 1) % n})
+        assert compared(n, tree, tree) == (1, 0, 0)
+        assert compared(n, tree, bare) == (0, 1, 0)
+        assert compared(n, bare, tree) == (0, 0, 1)
+        assert compared(n, tree, other) == (0, 1, 1)
+
+
+def test_comparing_bare_and_full() -> None:
+    """RULES 8.2: two bare trees share nothing; a full one has n-2 groups, and a bare one none."""
+    for n in (3, 4, 9, 512):
+        bare, chain = shapes.tree_of(n), shapes.caterpillar_of(list(range(n)))
+        assert compared(n, bare, bare) == (0, 0, 0)
+        assert compared(n, bare, chain) == (0, 0, n - 2)
+        assert compared(n, chain, bare) == (0, n - 2, 0)
+        assert compared(n, chain, chain) == (n - 2, 0, 0)
+
+
+def test_comparing_by_sets() -> None:
+    """RULES 8.1 and 8.2: each set of two or three of four samples counts once, where it belongs."""
+    counted = [some for some in sets_of_samples(4) if len(some) in (2, 3)]
+    for one, other in pairs_of_four():
+        where = [(some in one, some in other) for some in counted]
+        in_each = [where.count(which) for which in ((True, True), (True, False), (False, True))]
+        assert compared(4, one, other) == tuple(in_each)
+
+
+def test_comparing_exchanged() -> None:
+    """RULES 8.3: with the rows exchanged, the last two counts are exchanged."""
+    for one, other in pairs_of_four():
+        both, first, second = compared(4, one, other)
+        assert compared(4, other, one) == (both, second, first)
+
+
+def test_comparing_same_groups() -> None:
+    """RULES 8.4: the last two counts are both 0 exactly if the trees have the same groups."""
+    for one, other in pairs_of_four():
+        assert (compared(4, one, other)[1:] == (0, 0)) == (one == other)
+
+
+def distance(one: Tree, other: Tree) -> int:
+    """The last two counts of two trees of four samples, together."""
+    _, first, second = compared(4, one, other)
+    return first + second
+
+
+def test_distance() -> None:
+    """RULES 8.5: how many groups exactly one of two trees has; symmetric, 0 only for the same."""
+    for one, other in pairs_of_four():
+        in_one = sum((some in one) != (some in other) for some in sets_of_samples(4))
+        assert distance(one, other) == in_one
+        assert distance(one, other) == distance(other, one)
+        assert (distance(one, other) == 0) == (one == other)
+
+
+def test_distance_by_a_third() -> None:
+    """RULES 8.5: the distance of two trees is never more than by way of a third."""
+    trees = rows.every_tree(4)
+    apart = {pair: distance(*pair) for pair in product(trees, repeat=2)}
+    for one, third, other in product(trees, repeat=3):
+        assert apart[one, other] <= apart[one, third] + apart[third, other]
+
+
+# Refused rows
 
 
 def test_places_of_second_row() -> None:

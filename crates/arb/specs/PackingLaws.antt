@@ -8,12 +8,12 @@ use lib.Dec.{ltb}
 use borrow.Author.Tests.{ltb-true, ne-eqb}
 use Rattle.trees.specs.Checks.{Verdict, accepted, refused, counted, Check, _⊳_, judgeChecks, judged}
 use Rattle.trees.specs.Valid.{Valid}
-use Rattle.trees.specs.Comparing.{compared}
+use Rattle.trees.specs.Comparing.{nontrivial, compared}
 use Rattle.trees.specs.RowCalls.{renumberChecks, renumbering, compareChecks, comparing}
 use Rattle.trees.specs.BoolLaws.{and-l, and-r}
 use Rattle.trees.specs.ChainLaws.{Passed, passed-chain, Given, here, later, chain-holds, numbers as listed}
 use Rattle.trees.specs.CheckLaws.{judged-numbers}
-use Rattle.trees.specs.ComparingLaws.{shared-alone, length-set-valid}
+use Rattle.trees.specs.ComparingLaws.{shared-alone, nontrivial-most}
 use Rattle.trees.specs.RowCallLaws.{renumbering-numbers, comparing-numbers, comparing-accepts}
 use Rattle.trees.specs.PlacedLaws.{Placed, mostPlaces, judged-placed, renumbering-placed, comparing-placed}
 use Rattle.runs.specs.Runs.{every}
@@ -97,16 +97,16 @@ pub renumbering-unpacked : (n : ℕ) (r out : List ℕ) → unpacked (packed (re
 unfolding renumbering every
 renumbering-unpacked n r out = chain-back (renumberChecks n r out) (ap (every fits) (renumbering-numbers n r out)) (renumbering-placed n r out)
 
--- ---- comparing: its counts are at most the groups of a row, fewer than 1,024
+-- ---- comparing: its counts are at most the groups of a row that are not trivial, fewer than 512
 
 counts-small : (n : ℕ) (r q : List ℕ) → Valid n r → Valid n q → Small (compared n r q)
 unfolding compared
 counts-small n r q a b =
-    let x = length-set-valid n r a in
-    let y = length-set-valid n q b in (
-      omega (arith, shared-alone n r q, a .most),
-      omega (arith, shared-alone n r q, a .most),
-      omega (arith, shared-alone n q r, b .most),
+    let x = nontrivial-most n r a in
+    let y = nontrivial-most n q b in (
+      omega (arith, shared-alone (nontrivial n r) (nontrivial n q), a .most),
+      omega (arith, shared-alone (nontrivial n r) (nontrivial n q), a .most),
+      omega (arith, shared-alone (nontrivial n q) (nontrivial n r), b .most),
     )
 
 compared-counts : (n : ℕ) (r q : List ℕ) → compared n r q ≡ accepted → ⊥

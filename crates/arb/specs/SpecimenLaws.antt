@@ -13,7 +13,7 @@ use Rattle.trees.specs.Rows.{nodes, parent, meets, ends, groupAt, groups}
 use Rattle.trees.specs.Checks.{Verdict, accepted, refused, _⊳_, rowWords, outside, rowChecks, judgeChecks, judged}
 use Rattle.trees.specs.Valid.{isAccepted}
 use Rattle.trees.specs.Numbering.{enter, ordered, groupSet, lastWith, parents, rowOf, renumbered}
-use Rattle.trees.specs.Comparing.{compared}
+use Rattle.trees.specs.Comparing.{nontrivial, compared}
 use Rattle.trees.specs.Outcomes.{Outcome}
 use Rattle.trees.specs.RowCalls.{renumbering, compareChecks, comparing}
 use Rattle.trees.specs.Reporting.{Run, support, total, held, shown, agreed, supportsOf, supports}
@@ -171,7 +171,7 @@ first-word m e ws l = nodes-refused 3 m ws (omega arith) (omega arith) l e
 
 pub specimens-hold : AllSay specimens
 unfolding tabulate filter first weigh size lowest same listFirst before member nodes parent meets ends groupAt groups
-    _⊳_ rowChecks judgeChecks judged enter ordered groupSet lastWith parents rowOf renumbered compared compareChecks comparing
+    _⊳_ rowChecks judgeChecks judged enter ordered groupSet lastWith parents rowOf renumbered nontrivial compared compareChecks comparing
 specimens-hold =
     reports-so 5 _ _ _ _ _ three-runs (three-shown .0)
     and refl
@@ -188,6 +188,8 @@ specimens-hold =
     and first-word 3 refl
     and first-word 6 refl
     and reports-so 3 _ _ _ _ _ two-runs two-shown
+    and refl
+    and refl
     and refl
     and refl
     and reports-so 5 _ _ _ _ _ three-runs (three-shown .1)

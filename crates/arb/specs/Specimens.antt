@@ -103,9 +103,11 @@ specimens =
     ∷ nodesGive 3 6 (refused 5 0)
     -- two runs in conflict (RULES 10.5)
     ∷ reports 3 (run 1 row01 ∷ run 2 row02 ∷ []) twoRuns 0 (4 ∷ 3 ∷ 3 ∷ 3 ∷ 65535 ∷ 0 ∷ []) (2 ∷ 2 ∷ 2 ∷ 2 ∷ 2 ∷ 0 ∷ [])
-    -- comparisons (RULES 10.6): of the second one the two sides differ
-    ∷ compares 5 row1 row2 (counted 7 1 1)
-    ∷ compares 5 row1 row3 (counted 7 1 2)
+    -- comparisons (RULES 10.6): of the second one the two sides differ; then one tree in two numberings, and that of two samples
+    ∷ compares 5 row1 row2 (counted 1 1 1)
+    ∷ compares 5 row1 row3 (counted 1 1 2)
+    ∷ compares 3 row01 (5 ∷ 3 ∷ 3 ∷ 4 ∷ 4 ∷ 65535 ∷ []) (counted 1 0 0)
+    ∷ compares 2 (3 ∷ 2 ∷ 2 ∷ 65535 ∷ []) (3 ∷ 2 ∷ 2 ∷ 65535 ∷ []) (counted 0 0 0)
     -- the three runs at other thresholds (RULES 10.11)
     ∷ reports 5 caseRuns threeRuns 50 agreedRow supportRow
     ∷ reports 5 caseRuns threeRuns 66 agreedRow supportRow

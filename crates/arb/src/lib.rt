@@ -60,7 +60,7 @@ pub fn renumber(n: usize, row: &[u16], out: &mut [u16]) -> Answer
     row::renumber(n, row, out)
 }
 
-// Comparing (RULES 8): how many groups both rows have, the first alone, and the second alone; or a refusal. No word changes.
+// Comparing (RULES 8): how many non-trivial groups both rows have, the first alone, and the second alone; or a refusal. No word changes.
 pub fn compare(n: usize, first: &[u16], second: &[u16]) -> Comparison
     ensures { λ r. ⌜ comparison r ≡ comparing n (now (first .entry)) (now (second .entry)) ⌝ }
 {

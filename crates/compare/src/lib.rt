@@ -2,7 +2,7 @@
 ghost use mathlib.Core.Path.{_≡_};
 ghost use mathlib.Core.Bool.{not};
 ghost use mathlib.Core.List.{map};
-ghost use Prim.Native.Nat.{_≤_};
+ghost use Prim.Native.Nat.{_+_, _≤_};
 ghost use lib.Dec.{eqb};
 ghost use lib.ListN.{length, getD};
 ghost use Rattle.trees.specs.Lists.{range, count};
@@ -22,19 +22,19 @@ use quick::check_row;
 use row::check_first;
 use row::renumber_valid;
 
-// The groups that both rows have, those of the first alone and those of the second alone (RULES 8.1); or a refusal.
+// Of the groups that are not trivial, how many both rows have, the first alone and the second alone (RULES 8.1, 8.2); or a refusal.
 pub enum Comparison {
     Counted(usize, usize, usize),
     Refused(usize, usize),
 }
 
-// How many of the nodes from n to below m have a mate.
-fn mated(n: usize, m: usize, mate: &Table) -> usize
+// How many of the nodes from a to below m have a mate.
+fn mated(a: usize, m: usize, mate: &Table) -> usize
     requires { ⌜ m ≤ tableWords ⌝ }
-    ensures { λ r. ⌜ r ≡ count (λ v. not (eqb (getD (now (mate .entry)) v 0) noMate)) (range n m) ⌝ }
+    ensures { λ r. ⌜ r ≡ count (λ v. not (eqb (getD (now (mate .entry)) v 0) noMate)) (range a m) ⌝ }
 {
     let mut found: usize = 0;
-    let mut v = n;
+    let mut v = a;
     while v < m {
         if mate[v] != mates::NO_MATE {
             found += 1;
@@ -44,10 +44,10 @@ fn mated(n: usize, m: usize, mate: &Table) -> usize
     found
 }
 
-// How many inner nodes of a standard row have a group that another holds.
+// How many nodes after the root of a standard row have a group that another holds.
 fn common(n: usize, a: &[u16], b: &[u16]) -> usize
     requires { ⌜ Standard n (now a) × Standard n (now b) ⌝ }
-    ensures { λ r. ⌜ r ≡ count (λ v. holds n (groupAt n (now (a .entry)) v) (now (b .entry))) (range n (nodes (now (a .entry)))) ⌝ }
+    ensures { λ r. ⌜ r ≡ count (λ v. holds n (groupAt n (now (a .entry)) v) (now (b .entry))) (range (n + 1) (nodes (now (a .entry)))) ⌝ }
 {
     let mut size: Table = [0; TABLE];
     let mut low: Table = [0; TABLE];
@@ -55,17 +55,18 @@ fn common(n: usize, a: &[u16], b: &[u16]) -> usize
     let mut mate: Table = [0; TABLE];
     mates::tables(n, a, &mut size, &mut low, &mut start);
     mates::mates(n, a, &size, &low, &start, b, &mut mate);
-    mated(n, judge::nodes(a), &mate)
+    mated(n + 1, judge::nodes(a), &mate)
 }
 
-// The counts of two standard rows.
+// The counts of two standard rows: n + 1 groups of each are trivial.
 fn counts(n: usize, a: &[u16], b: &[u16]) -> Comparison
     requires { ⌜ Standard n (now a) × Standard n (now b) ⌝ }
     ensures { λ r. ⌜ comparison r ≡ compared n (now (a .entry)) (now (b .entry)) ⌝ }
 {
-    let both = common(n, a, b) + n;
-    let first = judge::nodes(a) - both;
-    let second = judge::nodes(b) - both;
+    let both = common(n, a, b);
+    let known = n + 1 + both;
+    let first = judge::nodes(a) - known;
+    let second = judge::nodes(b) - known;
     Comparison::Counted(both, first, second)
 }
 
@@ -112,7 +113,7 @@ fn rows_given(n: usize, first: &[u16], second: &[u16]) -> Answer
     check_second(n, second)
 }
 
-// Comparing: a refusal, or the three counts (RULES 8.1).
+// Comparing: a refusal, or the three counts (RULES 8).
 pub fn compare(n: usize, first: &[u16], second: &[u16]) -> Comparison
     ensures { λ r. ⌜ comparison r ≡ comparing n (now (first .entry)) (now (second .entry)) ⌝ }
 {

@@ -1,7 +1,8 @@
--- Groups by their samples: equality is decided, one group within another, sizes, single samples and the whole. Assumes nothing.
+-- Groups by their samples: equality is decided, one group within another, sizes, single samples, the whole, and that these are trivial.
+-- Assumes nothing.
 use Prim.Native.Nat.{ℕ, zero, suc, _≤_, _<_, zero-le, suc-le-suc}
 use mathlib.Core.Path.{_≡_, refl, sym, ap, _∙_}
-use mathlib.Core.Logic.{⊎-elim}
+use mathlib.Core.Logic.{_↔_, _⊎_, inl, inr, ⊎-elim}
 use mathlib.Core.List.{[], _∷_}
 use mathlib.Core.Bool.{Bool, true, false, _&&_, _||_, not, false≢true}
 use native.Mathlib.Nat.{le-of-suc-le-suc, suc-inj, zero-add}
@@ -10,7 +11,7 @@ use lib.Dec.{eqb}
 use lib.ListN.{length, length-replicate, getD-replicate}
 use lib.Seq.{ext-getD}
 use borrow.Author.Tests.{eqb-true, eqb-false, not-true, eq-eqb}
-use Rattle.trees.specs.Groups.{Group, has, whole, single, size, lowest, within, apart, agree, conflict, same}
+use Rattle.trees.specs.Groups.{Group, has, whole, single, size, lowest, trivial, within, apart, agree, conflict, same}
 use Rattle.trees.specs.BoolLaws.{and-l, and-r, and-both, or-cases, or-l, or-r, not-yes}
 use Rattle.trees.specs.ListLaws.{length-tabulate, getD-tabulate}
 
@@ -219,9 +220,6 @@ single-small n s = go (size (single n s)) refl
 pub single-own : (n s : ℕ) → s < n → has (single n s) s ≡ true
 single-own n s h = has-single n s s h ∙ eq-eqb s s refl
 
-pub lowest-single : (n s : ℕ) → s < n → lowest (single n s) ≡ s
-lowest-single n s h = single-has n s (lowest (single n s)) (lowest-has (single n s) (size-one (single n s) s (single-own n s h)))
-
 -- a group of one sample is that sample's
 pub size-single : (n : ℕ) (g : Group) → length g ≡ n → size g ≡ 1 → g ≡ single n (lowest g)
 size-single n g l z = within-eq g (single n (lowest g)) (l ∙ sym (length-tabulate n (λ u. eqb u (lowest g)) 0)) inside
@@ -233,3 +231,19 @@ size-single n g l z = within-eq g (single n (lowest g)) (l ∙ sym (length-tabul
         one : (b : Bool) → eqb s (lowest g) ≡ b → b ≡ true
         one true q = refl
         one false q = absurd (omega (arith, size-two g s (lowest g) e (lowest-has g (omega arith)) (eqb-false s (lowest g) q)))
+
+-- ---- the trivial groups
+
+-- exactly the single samples and the whole (RULES 3.3)
+pub trivial-exactly : (n : ℕ) (g : Group) → length g ≡ n → (trivial g ≡ true) ↔ (((s : ℕ) × (s < n) × (g ≡ single n s)) ⊎ (g ≡ whole n))
+trivial-exactly n g l = (λ e. to (or-cases (eqb (size g) 1) (eqb (size g) (length g)) e), from)
+  where
+    to : (eqb (size g) 1 ≡ true) ⊎ (eqb (size g) (length g) ≡ true) → ((s : ℕ) × (s < n) × (g ≡ single n s)) ⊎ (g ≡ whole n)
+    to (inl e) = let z = eqb-true (size g) 1 e in inl (lowest g, omega (arith, has-lt g (lowest g) (lowest-has g (omega arith))), size-single n g l z)
+    to (inr e) = inr (size-all n g l (omega (arith, eqb-true (size g) (length g) e)))
+
+    from : ((s : ℕ) × (s < n) × (g ≡ single n s)) ⊎ (g ≡ whole n) → trivial g ≡ true
+    from (inl t) =
+        let o = size-one (single n (t .0)) (t .0) (single-own n (t .0) (t .1)) in
+        or-l (eqb (size g) 1) (eqb (size g) (length g)) (eq-eqb (size g) 1 (omega (arith, ap size (t .2), single-small n (t .0))))
+    from (inr e) = or-r (eqb (size g) 1) (eqb (size g) (length g)) (eq-eqb (size g) (length g) (ap size e ∙ size-whole n ∙ sym l))

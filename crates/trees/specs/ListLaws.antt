@@ -4,12 +4,12 @@ use mathlib.Core.Path.{_≡_, refl, sym, ap, _∙_}
 use mathlib.Core.Logic.{_⊎_, inl, inr, ⊎-elim}
 use mathlib.Core.List.{List, [], _∷_, _++_, List·Memᴰ, List·Memᴰ·head, List·Memᴰ·tail, map}
 use mathlib.Core.Bool.{Bool, true, false, _&&_, _||_, not, cond, false≢true}
-use native.Mathlib.Nat.{le-of-suc-le-suc, suc-inj, add-zero, add-suc, suc-add, eq-or-lt-of-le}
+use native.Mathlib.Nat.{le-of-suc-le-suc, suc-inj, add-zero, add-suc, suc-add, eq-or-lt-of-le, le-antisymm}
 use native.Mathlib.Omega.{arith}
 use lib.Dec.{eqb, ltb}
 use lib.ListN.{length, getD, take, drop, take-append-drop, length-drop, length-replicate}
 use borrow.Author.Tests.{ltb-true, ltb-false, eqb-true, eqb-false, eq-eqb, ne-eqb, not-true, not-false}
-use Rattle.trees.specs.Lists.{tabulate, zeros, range, Place, nowhere, at, first, weigh, count}
+use Rattle.trees.specs.Lists.{tabulate, zeros, range, filter, Place, nowhere, at, first, weigh, count}
 use Rattle.trees.specs.BoolLaws.{and-l, and-r, and-both, and-false, or-cases, or-r, not-yes, decide}
 
 -- ---- tables
@@ -267,6 +267,34 @@ module _ {A : Type 0} where
   unfolding weigh
   count-all t [] h = refl
   count-all t (x ∷ xs) h = rw (h x (List·Memᴰ·head refl)) (omega (arith, count-all t xs (λ y m. h y (List·Memᴰ·tail m))))
+
+  pub count-same : (p q : A → Bool) (xs : List A) → ((x : A) → List·Memᴰ x xs → p x ≡ q x) → count p xs ≡ count q xs
+  count-same p q xs h = le-antisymm (weigh-mono (λ x. 1) p q xs (λ x m e. sym (h x m) ∙ e)) (weigh-mono (λ x. 1) q p xs (λ x m e. h x m ∙ e))
+
+  pub count-filter : (t : A → Bool) (xs : List A) → count t xs ≡ length (filter t xs)
+  unfolding weigh filter
+  count-filter t [] = refl
+  count-filter t (x ∷ xs) = go (t x) (count-filter t xs)
+    where
+      go : (b : Bool) → count t xs ≡ length (filter t xs) → cond b 1 0 + count t xs ≡ length (cond b (x ∷ filter t xs) (filter t xs))
+      go true h = omega arith
+      go false h = omega arith
+
+  -- those that pass and those that do not are all
+  pub count-not : (t : A → Bool) (xs : List A) → count t xs + count (λ x. not (t x)) xs ≡ length xs
+  unfolding weigh
+  count-not t [] = refl
+  count-not t (x ∷ xs) = go (t x) (count-not t xs)
+    where
+      go : (b : Bool) → count t xs + count (λ y. not (t y)) xs ≡ length xs
+          → (cond b 1 0 + count t xs) + (cond (not b) 1 0 + count (λ y. not (t y)) xs) ≡ length (x ∷ xs)
+      go true h = omega arith
+      go false h = omega arith
+
+  pub count-tabulate : (t : A → Bool) (k : ℕ) (f : ℕ → A) (s : ℕ) → count t (tabulate k f s) ≡ count (λ v. t (f v)) (tabulate k (λ v. v) s)
+  unfolding weigh tabulate
+  count-tabulate t zero f s = refl
+  count-tabulate t (suc k) f s = ap (λ (c : ℕ). cond (t (f s)) 1 0 + c) (count-tabulate t k f (suc s))
 
   pub count-le-length : (t : A → Bool) (xs : List A) → count t xs ≤ length xs
   count-le-length t xs = omega (arith, weigh-mono (λ x. 1) t (λ x. true) xs (λ x m e. refl), count-all (λ x. true) xs (λ x m. refl))

@@ -12,7 +12,7 @@ use Rattle.trees.specs.Groups.{Group, same, before, member}
 use Rattle.trees.specs.Valid.{In, Strict, inOrder}
 use Rattle.trees.specs.Numbering.{enter, ordered}
 use Rattle.trees.specs.BoolLaws.{and-l, and-r, and-both, or-cases, or-r, or-swap, true-eq}
-use Rattle.trees.specs.ListLaws.{length-tabulate, getD-tabulate}
+use Rattle.trees.specs.ListLaws.{length-tabulate, getD-tabulate, member-at}
 use Rattle.trees.specs.GroupLaws.{same-refl, same-eq, eq-same}
 use Rattle.trees.specs.OrderLaws.{before-irrefl, before-trans, first, equal, later, order}
 
@@ -54,6 +54,9 @@ at-in (h ∷ gs) g m = go (in-cases g h gs m) (λ r. at-in gs g r)
 pub mem-in : (g : Group) (gs : List Group) → List·Memᴰ g gs → In g gs
 mem-in g (h ∷ gs) (List·Memᴰ·head e) = rw e (in-head h gs)
 mem-in g (h ∷ gs) (List·Memᴰ·tail m) = in-tail g h gs (mem-in g gs m)
+
+pub in-mem : (g : Group) (gs : List Group) → In g gs → List·Memᴰ g gs
+in-mem g gs m = let t = at-in gs g m in rw (t .2) at (member-at gs (t .0) [] (t .1))
 
 -- the members of a table are its values
 pub in-table : (k : ℕ) (f : ℕ → Group) (s : ℕ) (g : Group) → In g (tabulate k f s) → (v : ℕ) × (s ≤ v) × (v < s + k) × (f v ≡ g)
@@ -136,17 +139,6 @@ strict-filter p (g ∷ gs) s = go (p g) (strict-filter p gs (s .1))
     go : (a : Bool) → Strict (filter p gs) → Strict (cond a (g ∷ filter p gs) (filter p gs))
     go true r = (λ x m. s .0 x (and-r (p x) (member x gs) (sym (member-filter x p gs) ∙ m)), r)
     go false r = r
-
-pub strict-append : (gs hs : List Group) → Strict gs → Strict hs → ((g h : Group) → In g gs → In h hs → before g h ≡ true) → Strict (gs ++ hs)
-strict-append [] hs s t b = t
-strict-append (g ∷ gs) hs s t b = (
-  λ x m. go x (or-cases (member x gs) (member x hs) (sym (member-append x gs hs) ∙ m)),
-  strict-append gs hs (s .1) t (λ x y m. b x y (in-tail x g gs m)),
-)
-  where
-    go : (x : Group) → In x gs ⊎ In x hs → before g x ≡ true
-    go x (inl m) = s .0 x m
-    go x (inr m) = b g x (in-head g gs) m
 
 -- a table whose values rise is in strict order
 pub strict-table : (k : ℕ) (f : ℕ → Group) (s : ℕ) → ((v w : ℕ) → s ≤ v → v < w → w < s + k → before (f v) (f w) ≡ true) → Strict (tabulate k f s)

@@ -25,11 +25,11 @@ use Rattle.trees.specs.MemberLaws.{nth, in-at}
 use Rattle.trees.specs.RowOfLaws.{nodes-row, parent-leaf, parent-inner, filler-row}
 use Rattle.trees.specs.FamilyLaws.{Family, last-is, first-whole, some, two, fewer}
 use Rattle.trees.specs.PlantingLaws.{planted-valid}
-use Rattle.trees.specs.StandardLaws.{node-before}
+use Rattle.trees.specs.StandardLaws.{node-before, root-whole}
 use Rattle.trees.specs.NeverLaws.{Tri, less, equal, more, tri}
 use Rattle.trees.specs.FallsLaws.{standard-falls}
 use Rattle.trees.specs.RankLaws.{lowest-in}
-use Rattle.trees.specs.MergingLaws.{in-kept, kept-in, merged-cases, merged-first, merged-second, merged-family, root-whole}
+use Rattle.trees.specs.MergingLaws.{in-kept, kept-in, merged-cases, merged-first, merged-second, merged-family}
 use Rattle.trees.specs.LockstepLaws.{place-in, index-before, index-one}
 use Rattle.trees.specs.ClimbingLaws.{Best, Rises, best-nearest, best-parent, up-below}
 
@@ -76,7 +76,7 @@ module _ {n : ℕ} {gs : List Group} (fam : Family n gs) {r : List ℕ} {keep : 
   number-root : flagged keep n ≡ true → entry num n ≡ n
   number-root e =
       let p = number-group n (omega arith) (side .std .valid .low) e in
-      let e : nth gs (entry num n - n) ≡ nth gs 0 = p .2 ∙ root-whole (side .std) ∙ sym (first-whole n gs fam) in
+      let e : nth gs (entry num n - n) ≡ nth gs 0 = p .2 ∙ root-whole _ _ (side .std) ∙ sym (first-whole n gs fam) in
       omega (arith, p, index-one gs (fam .strict) (entry num n - n) 0 (omega arith) (some n gs fam) e)
 
   number-top : entry num n ≤ n
@@ -101,7 +101,7 @@ module _ {n : ℕ} {gs : List Group} (fam : Family n gs) {r : List ℕ} {keep : 
     best-root z j e = omega (
       arith,
       number-root e,
-      best .most n (omega arith) (side .std .valid .low) (rw (root-whole (side .std)) (has-whole n s z)) (omega (arith, number-root e)),
+      best .most n (omega arith) (side .std .valid .low) (rw (root-whole _ _ (side .std)) (has-whole n s z)) (omega (arith, number-root e)),
     )
 
 -- ---- both sides

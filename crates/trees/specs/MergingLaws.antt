@@ -16,10 +16,10 @@ use Rattle.trees.specs.BoolLaws.{or-cases, or-l, or-r, not-yes}
 use Rattle.trees.specs.ListLaws.{range-cons, range-none, in-range, range-in}
 use Rattle.trees.specs.GroupLaws.{Agree, under, over, aside}
 use Rattle.trees.specs.MemberLaws.{in-none, in-head, in-tail, in-cases, member-ordered, member-append, strict-ordered}
-use Rattle.trees.specs.RowLaws.{length-group, inner-two, group-agree, root-group}
+use Rattle.trees.specs.RowLaws.{length-group, inner-two, group-agree}
 use Rattle.trees.specs.FamilyLaws.{Family}
 use Rattle.trees.specs.PlantingLaws.{planted, planted-standard}
-use Rattle.trees.specs.FallsLaws.{standard-falls}
+use Rattle.trees.specs.StandardLaws.{root-whole}
 
 -- ---- the values of a function at the members of a list that pass a test
 
@@ -101,10 +101,6 @@ module _ (n : ℕ) (a : List ℕ) (keepA : List Bool) (b : List ℕ) (keepB : Li
   pub merged-second : (x : Group) → In x (kept n b keepB) → In x (merged n a keepA b keepB)
   merged-second x m = member-merged x ∙ or-r (member x (kept n a keepA)) (member x (kept n b keepB)) m
 
--- the root's group is the whole
-pub root-whole : {n : ℕ} {r : List ℕ} → Standard n r → groupAt n r n ≡ whole n
-root-whole {n} {r} std = root-group n r (std .valid) n (omega arith) (std .valid .low) (standard-falls n r std .root)
-
 module _ {n : ℕ} {r : List ℕ} (std : Standard n r) (keep : List Bool) where
   kept-long : (x : Group) → In x (kept n r keep) → length x ≡ n
   kept-long x m = let t = in-kept n r keep n x m in rw (← (t .4)) (length-group n r (t .0))
@@ -116,7 +112,7 @@ module _ {n : ℕ} {r : List ℕ} (std : Standard n r) (keep : List Bool) where
   kept-agree x y m k = let t = in-kept n r keep n x m in let u = in-kept n r keep n y k in rw (← (t .4), ← (u .4)) (group-agree n r (std .valid) (t .0) (u .0))
 
   kept-top : flagged keep n ≡ true → In (whole n) (kept n r keep)
-  kept-top e = rw (← root-whole std) (kept-in n r keep n n (omega arith) (std .valid .low) e)
+  kept-top e = rw (← root-whole n r std) (kept-in n r keep n n (omega arith) (std .valid .low) e)
 
 module _ {n : ℕ} {a : List ℕ} {keepA : List Bool} {b : List ℕ} {keepB : List Bool} (ok : Mergeable n a keepA b keepB) where
   either : {P : Group → Type 0} → ((x : Group) → In x (kept n a keepA) → P x) → ((x : Group) → In x (kept n b keepB) → P x) → (x : Group)

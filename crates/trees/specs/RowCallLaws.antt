@@ -1,5 +1,5 @@
--- Demand 1 for renumbering and comparing, and what an accepted renumbering leaves. Assumes nothing.
-use Prim.Native.Nat.{ℕ, _+_}
+-- Demand 1 for renumbering and comparing, what an accepted renumbering leaves, and what the counts of comparing say. Assumes nothing.
+use Prim.Native.Nat.{ℕ, _+_, _≤_}
 use mathlib.Core.Path.{_≡_, refl, sym, ap, _∙_}
 use mathlib.Core.Logic.{_↔_}
 use mathlib.Core.List.{List, [], _∷_, map}
@@ -10,18 +10,19 @@ use lib.ListN.{length}
 use borrow.Author.Tests.{eqb-true, eq-eqb, not-false}
 use Rattle.trees.specs.Lists.{Place, nowhere, at}
 use Rattle.trees.specs.Groups.{Group, member}
-use Rattle.trees.specs.Rows.{groups}
+use Rattle.trees.specs.Rows.{groups, holds}
 use Rattle.trees.specs.Checks.{Verdict, accepted, refused, counted, Check, orElse, _⊳_, rowWords}
 use Rattle.trees.specs.Checks.{check3, rowChecks, judgeChecks}
 use Rattle.trees.specs.Valid.{Valid, Standard}
-use Rattle.trees.specs.Numbering.{renumbered}
-use Rattle.trees.specs.Comparing.{shared, alone, compared}
+use Rattle.trees.specs.Numbering.{groupSet, renumbered}
+use Rattle.trees.specs.Comparing.{shared, alone, distance, nontrivial, compared}
 use Rattle.trees.specs.RowCalls.{check3Both, renumberChecks, renumbering, movedPlace, moved, compareChecks, comparing}
 use Rattle.trees.specs.BoolLaws.{or-none}
-use Rattle.trees.specs.ChainLaws.{Passed, passed-chain, unrefused-passed, chain-passed, Exactly, accepted-other, counted-other, refused-exactly, numbers}
-use Rattle.trees.specs.ChainLaws.{line-passes, passed-append, passed-split}
+use Rattle.trees.specs.ChainLaws.{Passed, passed-chain, chain-passed, Unrefused, accepted-other, counted-other, unrefused-passed}
+use Rattle.trees.specs.ChainLaws.{Exactly, refused-exactly, numbers, line-passes, passed-append, passed-split}
 use Rattle.trees.specs.ValidLaws.{passed-valid, valid-passed}
-use Rattle.trees.specs.NumberingLaws.{renumbered-standard, renumbered-groups, renumbered-same}
+use Rattle.trees.specs.NumberingLaws.{set-strict, renumbered-standard, renumbered-groups, renumbered-same}
+use Rattle.trees.specs.ComparingLaws.{distance-triangle, compared-swapped, compared-distance, compared-same}
 use Rattle.trees.specs.OutcomeLaws.{outcome-refused, outcome-accepted}
 
 -- ---- the lengths of two buffers
@@ -109,20 +110,23 @@ module _ (n : ℕ) (r q : List ℕ) where
   unfolding compareChecks rowChecks
   comparing-numbers = refl
 
+  compared-other : Unrefused (compared n r q)
+  unfolding compared
+  compared-other = let a = nontrivial n r in let b = nontrivial n q in counted-other (shared a b) (alone a b) (alone b a)
+
   -- DEMAND 1 of comparing (RULES D1)
   pub comparing-exactly : (k p : ℕ) → (comparing n r q ≡ refused k p) ↔ Exactly k p (compareChecks n r q)
-  unfolding comparing compared
-  comparing-exactly = refused-exactly (compareChecks n r q) (compared n r q) (counted-other (shared n r q) (alone n r q) (alone n q r))
+  unfolding comparing
+  comparing-exactly = refused-exactly (compareChecks n r q) (compared n r q) compared-other
 
   -- it answers its counts exactly if both rows are valid
   pub comparing-accepts : (comparing n r q ≡ compared n r q) ↔ (Valid n r × Valid n q)
-  unfolding comparing compared compareChecks judgeChecks
+  unfolding comparing compareChecks judgeChecks
   comparing-accepts = (to, from)
     where
       to : compareChecks n r q ⊳ compared n r q ≡ compared n r q → Valid n r × Valid n q
       to e =
-          let h = unrefused-passed (compareChecks n r q) (compared n r q)
-          (λ k p d. counted-other (shared n r q) (alone n r q) (alone n q r) k p (sym e ∙ d)) in
+          let h = unrefused-passed (compareChecks n r q) (compared n r q) (λ k p d. compared-other k p (sym e ∙ d)) in
           let l = both-lengths n r q (h .1 .0) in
           let s = passed-split (rowChecks n r) (map (moved (rowWords n)) (rowChecks n q)) (h .1 .1) in (
             passed-valid n r (h .0, (one-fits n r (l .0), s .0)),
@@ -140,6 +144,49 @@ module _ (n : ℕ) (r q : List ℕ) where
               passed-append (rowChecks n r) (map (moved (rowWords n)) (rowChecks n q)) (h .1 .1) (moved-passed (rowWords n) (rowChecks n q) .1 (k .1 .1)),
             ),
           )
+
+  -- the counts that it answers are those of valid rows
+  pub comparing-counts : (a b c : ℕ) → (comparing n r q ≡ counted a b c) ↔ (Valid n r × Valid n q × (compared n r q ≡ counted a b c))
+  unfolding comparing
+  comparing-counts a b c = (to, λ t. comparing-accepts .1 (t .0, t .1) ∙ t .2)
+    where
+      to : compareChecks n r q ⊳ compared n r q ≡ counted a b c → Valid n r × Valid n q × (compared n r q ≡ counted a b c)
+      to e =
+          let h = passed-chain (compareChecks n r q) (compared n r q)
+          (unrefused-passed (compareChecks n r q) (compared n r q) (λ k p d. counted-other a b c k p (sym e ∙ d))) in
+          let t = comparing-accepts .0 h in (t .0, t .1, sym h ∙ e)
+
+-- ---- what the counts that it answers say (RULES 8.3 to 8.5)
+
+module _ (n : ℕ) (r q : List ℕ) where
+  -- the rows exchanged
+  pub comparing-swapped : (a b c : ℕ) → comparing n r q ≡ counted a b c → comparing n q r ≡ counted a c b
+  comparing-swapped a b c e = let t = comparing-counts n r q a b c .0 e in
+      comparing-counts n q r a c b .1 (t .1, t .0, compared-swapped n r q a b c (t .2))
+
+  -- both last counts are 0 for two trees with the same groups, and for no others
+  pub comparing-same : ((a : ℕ) × (comparing n r q ≡ counted a 0 0)) ↔ (Valid n r × Valid n q × ((x : Group) → holds n x r ≡ holds n x q))
+  comparing-same = (
+    λ w. let t = comparing-counts n r q (w .0) 0 0 .0 (w .1) in (t .0, t .1, compared-same n r q (t .0) (t .1) .0 (w .0, t .2)),
+    λ t. let w = compared-same n r q (t .0) (t .1) .1 (t .2) in (w .0, comparing-counts n r q (w .0) 0 0 .1 (t .0, t .1, w .1)),
+  )
+
+  -- together they are the distance of the two trees
+  pub comparing-distance : (a b c : ℕ) → comparing n r q ≡ counted a b c → b + c ≡ distance (groupSet n r) (groupSet n q)
+  comparing-distance a b c e = let t = comparing-counts n r q a b c .0 e in compared-distance n r q (t .0) (t .1) a b c (t .2)
+
+-- and by way of a third tree it is no shorter
+pub comparing-triangle : (n : ℕ) (r q s : List ℕ) (a b c d e f g h i : ℕ) → comparing n r q ≡ counted a b c → comparing n q s ≡ counted d e f
+    → comparing n r s ≡ counted g h i → h + i ≤ (b + c) + (e + f)
+comparing-triangle n r q s a b c d e f g h i x y z = omega (
+  arith,
+  comparing-distance n r q a b c x,
+  comparing-distance n q s d e f y,
+  comparing-distance n r s g h i z,
+  distance-triangle (groupSet n r) (groupSet n q) (groupSet n s) (set-strict n r) (set-strict n q) (set-strict n s),
+)
+
+-- ---- the second row's checks
 
 -- a verdict with d added to its place
 abbrev pub movedVerdict : ℕ → Verdict → Verdict

@@ -10,14 +10,14 @@ use lib.Dec.{eqb, ltb}
 use lib.ListN.{length, length-replicate}
 use borrow.Author.Tests.{eqb-true, eqb-false, eq-eqb, ne-eqb, ltb-true, ltb-false}
 use Rattle.trees.specs.Lists.{tabulate, range}
-use Rattle.trees.specs.Groups.{Group, has, whole, single, size, lowest, trivial}
+use Rattle.trees.specs.Groups.{Group, has, whole, single, size, trivial}
 use Rattle.trees.specs.Rows.{nodes, parent, rootMark, childOf, meets, ends, groupAt, groups, inner, holds}
 use Rattle.trees.specs.Valid.{Valid, In}
 use Rattle.trees.specs.Rooted.{Rooted}
-use Rattle.trees.specs.BoolLaws.{or-cases, true-eq, not-yes, decide}
+use Rattle.trees.specs.BoolLaws.{true-eq, not-yes, decide}
 use Rattle.trees.specs.ListLaws.{length-tabulate, getD-tabulate, tabulate-add, tabulate-same, in-range, range-in, weigh-found, count-two, count-beside}
-use Rattle.trees.specs.GroupLaws.{Within, Agree, under, over, aside, has-lt, lowest-has}
-use Rattle.trees.specs.GroupLaws.{size-one, size-two, size-whole, size-single, size-all, within-size}
+use Rattle.trees.specs.GroupLaws.{Within, Agree, under, over, aside, has-lt}
+use Rattle.trees.specs.GroupLaws.{size-one, size-two, size-whole, size-all, within-size, trivial-exactly}
 use Rattle.trees.specs.MemberLaws.{nth, in-table, table-in}
 use Rattle.trees.specs.WayLaws.{up, met-from, meets-refl, meets-trans, meets-past, below, meets-line, ends-up, ends-none, meets-less, no-loop}
 
@@ -259,12 +259,7 @@ module _ (n : ℕ) (r : List ℕ) (ok : Valid n r) where
 
   -- a run holds every trivial group
   pub holds-trivial : (g : Group) → length g ≡ n → trivial g ≡ true → holds n g r ≡ true
-  holds-trivial g l e = ⊎-elim (λ q. one (eqb-true _ _ q)) (λ q. all (eqb-true _ _ q)) (or-cases (eqb (size g) 1) (eqb (size g) (length g)) e)
-    where
-      one : size g ≡ 1 → holds n g r ≡ true
-      one z =
-          let h : lowest g < n = omega (arith, has-lt g _ (lowest-has g (omega arith))) in
-          rw (size-single n g l z, ← leaf-group n r valid-rooted (lowest g) h) (groups-in n r (lowest g) (omega (arith, ok .low)))
-
-      all : size g ≡ length g → holds n g r ≡ true
-      all z = rw (size-all n g l (omega arith)) (let t = in-inner n r (whole n) whole-inner in rw (← (t .3)) (groups-in n r (t .0) (t .2)))
+  holds-trivial g l e = ⊎-elim
+      (λ t. rw (t .2, ← leaf-group n r valid-rooted (t .0) (t .1)) (groups-in n r (t .0) (omega (arith, ok .low))))
+      (λ w. rw w (let t = in-inner n r (whole n) whole-inner in rw (← (t .3)) (groups-in n r (t .0) (t .2))))
+      (trivial-exactly n g l .0 e)

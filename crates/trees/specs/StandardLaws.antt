@@ -4,13 +4,13 @@ use mathlib.Core.Path.{_≡_, refl, sym, ap, _∙_, subst}
 use mathlib.Core.Logic.{_↔_, _⊎_, inl, inr, ⊎-elim}
 use mathlib.Core.List.{List}
 use mathlib.Core.Bool.{true, false}
-use native.Mathlib.Nat.{add-sub-of-le}
+use native.Mathlib.Nat.{add-zero, add-sub-of-le}
 use native.Mathlib.Omega.{arith}
 use lib.Dec.{ltb, eqb}
 use lib.ListN.{length, getD, take}
 use lib.Seq.{take-length, ext-getD}
 use borrow.Author.Tests.{eqb-true, eqb-false, ltb-true, ltb-false}
-use Rattle.trees.specs.Groups.{Group, has, lowest, before}
+use Rattle.trees.specs.Groups.{Group, has, whole, lowest, before}
 use Rattle.trees.specs.Rows.{nodes, parent, rootMark, childOf, groupAt, inner}
 use Rattle.trees.specs.Checks.{judged}
 use Rattle.trees.specs.Valid.{Valid, Standard, isAccepted, inOrder, standard}
@@ -22,7 +22,7 @@ use Rattle.trees.specs.OrderLaws.{Earlier, before-irrefl, before-size, b
 use Rattle.trees.specs.MemberLaws.{nth, strict-table, strict-at, in-order-strict, strict-in-order}
 use Rattle.trees.specs.ValidLaws.{accepted-to, judged-valid, valid-judged}
 use Rattle.trees.specs.RowOfLaws.{nodes-row, parent-leaf, parent-inner, filler-row}
-use Rattle.trees.specs.FamilyLaws.{Family, last-is}
+use Rattle.trees.specs.FamilyLaws.{Family, last-is, first-whole}
 use Rattle.trees.specs.PlantingLaws.{planted-valid}
 use Rattle.trees.specs.WayLaws.{meets-refl, meets-past, meets-line}
 use Rattle.trees.specs.RowLaws.{Above, length-group, group-has, in-group, length-inner, at-inner, in-inner}
@@ -58,6 +58,10 @@ module _ (n : ℕ) (r : List ℕ) (std : Standard n r) where
     agree = λ g h m k. let t = in-inner n r g m in let u = in-inner n r h k in rw (← (t .3), ← (u .3)) (group-agree n r ok (t .0) (u .0));
     top = whole-inner n r ok;
   }
+
+  -- the root is node n (RULES 4.2): its group is the whole
+  pub root-whole : groupAt n r n ≡ whole n
+  root-whole = ap (groupAt n r) (sym (add-zero n)) ∙ sym (at-inner n r 0 (omega (arith, ok .low))) ∙ first-whole n (inner n r) standard-family
 
   -- an inner node comes before each of a higher number
   pub node-before : (v w : ℕ) → n ≤ v → v < w → w < nodes r → before (groupAt n r v) (groupAt n r w) ≡ true

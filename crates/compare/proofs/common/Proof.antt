@@ -1,4 +1,4 @@
--- `compare::common` counts the inner nodes that have a mate: those whose group the other row holds. Assumes nothing.
+-- `compare::common` counts the nodes after the root that have a mate: those whose group the other row holds. Assumes nothing.
 use mathlib.Core.Path.{_∙_}
 use denote.Ref.{now}
 use borrow.Author.Needs.{needs}
@@ -11,6 +11,9 @@ tables-requires c κs = search needs
 
 mates-requires : tie.Need-mates-requires
 mates-requires c κs = search needs
+
+add-mated : tie.Need-add-mated
+add-mated c = search needs
 
 nodes-requires : tie.Need-nodes-requires
 nodes-requires c κs = search needs
@@ -28,4 +31,4 @@ returns c =
 
 pub common-spec : {M : Type 1} → statement M
 common-spec =
-    tie.close (tie.spec tables-requires mates-requires nodes-requires mated-requires returns)
+    tie.close (tie.spec tables-requires mates-requires add-mated nodes-requires mated-requires returns)
