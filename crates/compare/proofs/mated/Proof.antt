@@ -14,10 +14,10 @@ use Rattle.compare.proofs.mated.Statement.{statement}
 use Rattle.compare.proofs.mated.Tie as tie
 
 abbrev Inv-loop : tie.InvT-loop
-Inv-loop n m mate found₀ v₀ found v = CountLeft (λ u. not (eqb (getD mate u 0) noMate)) n m found v
+Inv-loop a m mate found₀ v₀ found v = CountLeft (λ u. not (eqb (getD mate u 0) noMate)) a m found v
 
 abbrev μ-loop : tie.MeasureT-loop
-μ-loop n m mate found₀ v₀ found v = m - v
+μ-loop a m mate found₀ v₀ found v = m - v
 
 loop-holds : tie.Need-loop-holds Inv-loop μ-loop
 loop-holds c = count-start _ _ _
