@@ -1,11 +1,12 @@
 // Times the library's report, at several thresholds, and its well-formedness check against plain C and against a hash table, and the calls on
-// single rows against plain C, in one process, as ratios; with the argument `rows` those calls alone. Ends with 1 if an answer differs.
+// single rows and on Newick texts against plain C, in one process, as ratios; with the argument `rows` or `newick` those calls alone. Ends with 1 if
+// an answer differs.
 #include "arb.h"
+#include "call_tables.h"
 #include "draws.h"
 #include "hashed.h"
 #include "measure.h"
 #include "plain.h"
-#include "row_tables.h"
 
 enum { ABSENT = 65535, ENGINES = 3, SIZES = 4, THRESHOLDS = 3, HALF = 50 };
 enum engine { LIBRARY, PLAIN, HASHED };
@@ -138,9 +139,15 @@ static void measure_studies(void) {
     measure_thresholds(CATERPILLAR);
 }
 
+static void measure_calls(const struct table *t) {
+    measure_table(t, RANDOM);
+    measure_table(t, CATERPILLAR);
+}
+
 int main(int argc, char **argv) {
-    if (argc < 2 || strcmp(argv[1], "rows")) measure_studies();
-    measure_rows(RANDOM);
-    measure_rows(CATERPILLAR);
+    const char *part = argc > 1 ? argv[1] : "";
+    if (!*part) measure_studies();
+    if (!*part || !strcmp(part, "rows")) measure_calls(&row_table);
+    if (!*part || !strcmp(part, "newick")) measure_calls(&text_table);
     return failures != 0;
 }

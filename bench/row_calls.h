@@ -36,12 +36,13 @@ static u64 check_by_library(int i) {
 // A withdrawal that comes to 13: it has checked the study alone.
 static u64 study_check(int i) { return arb_withdraw(held, study_length(), IDENTIFIER + 1 + i) == ARB_REFUSAL_ABSENT; }
 
-// A line of the tables: the library's version and plain C's; judging's linear one; a call whose time is taken off the library's; the power of n in
-// the stated cost; and whether the calls fill studies, which are then emptied before each batch.
-struct line { const char *name; version *library, *plain, *linear, *taken_off; int power, fills; };
+// A line of the tables: the library's version and plain C's; another in plain C; a call whose time is taken off the library's; the power of n in the
+// stated cost; whether the calls fill studies, which are then emptied before each batch; and the numbers that have to come, a bit each.
+struct line { const char *name; version *library, *plain, *other, *taken_off; int power, fills; unsigned numbers; };
 
-static const struct line lines[] = {
-    {.name = "judge", .library = judge_by_library, .plain = judge_by_scans, .linear = judge_by_tables, .power = SQUARE},
+// The other version of judging is linear.
+static const struct line row_lines[] = {
+    {.name = "judge", .library = judge_by_library, .plain = judge_by_scans, .other = judge_by_tables, .power = SQUARE},
     {.name = "renumber", .library = renumber_by_library, .plain = renumber_by_plain, .power = SQUARE},
     {.name = "compare", .library = compare_by_library, .plain = compare_by_plain, .power = SQUARE},
     {.name = "check in an add", .library = check_by_library, .plain = judge_by_tables, .taken_off = study_check, .power = LINEAR},
@@ -109,20 +110,20 @@ static void compare_versions(const char *name, version *library, version *other)
     }
 }
 
-static void compare_line(const struct line *l) {
+static void compare_row_line(const struct line *l) {
     compare_versions(l->name, l->library, l->plain);
-    if (l->linear) compare_versions(l->name, l->library, l->linear);
+    if (l->other) compare_versions(l->name, l->library, l->other);
 }
 
 // Compares the versions on each kind of rows; the drawn ones are left to be timed.
-static void try_line(const struct line *l, enum shape shape) {
+static void try_row_line(const struct line *l, enum shape shape) {
     draw_rows(shape);
     hold_first_row();
     spoil_rows();
-    compare_line(l);
+    compare_row_line(l);
     draw_rows(shape);
     contract_rows();
-    compare_line(l);
+    compare_row_line(l);
     draw_rows(shape);
-    compare_line(l);
+    compare_row_line(l);
 }

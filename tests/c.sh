@@ -1,5 +1,5 @@
 #!/usr/bin/env bash
-# Builds the C test and the example of docs/USING.md with the kit's clang and ld.lld, runs both, and compares what the example writes.
+# Builds the C test and the examples of docs/USING.md with the kit's clang and ld.lld, runs them, and compares what the examples write.
 #
 #   tests/c.sh
 #
@@ -9,9 +9,9 @@ cd "$(dirname "$0")/.." || exit 1
 passed=0
 failed=0
 
-# block KIND: the block of that kind in docs/USING.md
+# block KIND N: the Nth block of that kind in docs/USING.md
 block() {
-  sed -n "/^\`\`\`$1\$/,/^\`\`\`\$/{/^\`\`\`/d;p}" docs/USING.md
+  awk -v head="\`\`\`$1" -v wanted="$2" '/^```/ { inside = $0 == head; found += inside; next } inside && found == wanted' docs/USING.md
 }
 
 # fail WHAT: one more that failed
@@ -36,19 +36,22 @@ run_test() {
   fi
 }
 
-# Runs the page's program, and compares what it writes with what the page says.
+# run_example N: runs the page's Nth program, and compares what it writes with the page's Nth text.
 run_example() {
-  block c >target/c/example.c
-  tests/build-c target/c/example.c target/c/example -pedantic || { fail "building the example"; return; }
-  if tests/run-program target/c/example | diff <(block text) -; then
+  local example=target/c/example$1
+  block c "$1" >"$example.c"
+  tests/build-c "$example.c" "$example" -pedantic || { fail "building example $1"; return; }
+  if tests/run-program "$example" | diff <(block text "$1") -; then
     passed=$((passed + 1))
   else
-    fail "the example of docs/USING.md"
+    fail "example $1 of docs/USING.md"
   fi
 }
 
 mkdir -p target/c
 run_test
-run_example
+examples=$(grep -c '^```c$' docs/USING.md)
+[[ $examples -gt 0 ]] || fail "docs/USING.md has no example"
+for ((i = 1; i <= examples; i++)); do run_example "$i"; done
 echo "$passed passed, $failed failed"
 [[ $failed -eq 0 && $passed -gt 0 ]]

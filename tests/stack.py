@@ -13,12 +13,10 @@ sys.dont_write_bytecode = True
 
 from trials import TOP, Trials, run  # noqa: E402
 
-CALLS = ["open", "add", "withdraw", "report", "judge", "renumber", "compare"]
+CALLS = ["open", "add", "withdraw", "report", "judge", "renumber", "compare", "read_newick", "write_newick", "write_newick_supports"]
 PERFORMANCE, USING, HEADER = "docs/PERFORMANCE.md", "docs/USING.md", "include/arb.h"
 BOUND, MEASURED = "stack at most, bytes", "measured"  # heads of columns
-OF_ANY = r"(\d+) KiB of stack"
-OF_JUDGING = r"arb_judge no more than ([\d,]+) bytes"
-KIB = 1024
+IN_HEADER = r"Stack: ([\d,]+) bytes\. \*/\s*uint64_t arb_(\w+)\("  # the end of a call's comment, and the call
 # A bound may lie above what was measured as far as the next multiple of a step. That of judging is exact: the stack moves by 8 bytes.
 STEPS = {"judge": 8, "open": 64}
 OTHER_STEP = 1024
@@ -48,10 +46,9 @@ def column(page: str, title: str, head: str) -> dict[str, int]:
     return {row[0]: number(row[at]) for row in rows if row[0] in CALLS and at}
 
 
-def stated(page: str, pattern: str) -> list[int]:
-    """The number in each sentence of a page that has this pattern; a sentence may go on in the next line, also of a comment in C."""
-    text = " ".join((TOP / page).read_text().replace("\n *", "\n").split())
-    return [number(found) for found in re.findall(pattern, text)]
+def header() -> dict[str, int]:
+    """The bound that the header has with each call."""
+    return {call: number(bound) for bound, call in re.findall(IN_HEADER, (TOP / HEADER).read_text())}
 
 
 def measure(trials: Trials) -> dict[str, int]:
@@ -73,32 +70,21 @@ def test_bound(trials: Trials, call: str, where: str, taken: int, bound: int) ->
 
 
 def test_tables(trials: Trials, taken: dict[str, int]) -> None:
-    """The bound of each call, the same in both pages; and what one page says was measured."""
+    """The bound of each call, the same in both pages and in the header; and what one page says was measured."""
     bounds, written = column(PERFORMANCE, "Stack", BOUND), column(PERFORMANCE, "Stack", MEASURED)
     for what, known in (("bounds", bounds), ("measured bytes", written), ("bytes that the program says", taken)):
         trials.expect(f"{what} of every call", sorted(CALLS), sorted(known))
     trials.expect(f"the bounds of {USING}", bounds, column(USING, "Sizes and costs", BOUND))
+    trials.expect(f"the bounds of {HEADER}", bounds, header())
     for call in CALLS:
         test_bound(trials, call, "", taken.get(call, 0), bounds.get(call, 0))
         test_bound(trials, call, f", as {PERFORMANCE} says", written.get(call, 0), bounds.get(call, 0))
 
 
-def test_sentences(trials: Trials) -> None:
-    """The bound of any call, the same in each page, and in the header that of judging."""
-    bounds = column(USING, "Sizes and costs", BOUND)
-    of_any = stated(USING, OF_ANY)[:1]
-    for page in (PERFORMANCE, USING, HEADER):
-        trials.expect(f"{page}: the bound of any call, in KiB", of_any, stated(page, OF_ANY))
-    trials.expect(f"the bounds of {bounds} are within {of_any} KiB", True, max(bounds.values(), default=0) <= KIB * max(of_any, default=0))
-    trials.expect(f"{HEADER}: the bound of judging", [bounds.get("judge")], stated(HEADER, OF_JUDGING))
-
-
 def main() -> int:
     """Runs every test; the status."""
     trials = Trials()
-    taken = measure(trials)
-    test_tables(trials, taken)
-    test_sentences(trials)
+    test_tables(trials, measure(trials))
     return trials.end()
 
 

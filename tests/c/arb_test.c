@@ -1,13 +1,12 @@
 // Makes every call of include/arb.h on the specimens of docs/RULES.md (section 10), on each refusal that the call can give, and at the
-// bounds of n, of runs and of lengths. Expected words follow the rules alone, by hand. The last line is 'N passed, M failed'; the status
-// is 0 only if M is 0 and N is not.
-#include "arb.h"
-#include <stdio.h>
-#include <string.h>
+// bounds of n, of runs and of lengths. Expected words and bytes follow the rules alone, by hand. The last line is 'N passed, M failed'; the
+// status is 0 only if M is 0 and N is not.
+#include "rows.h"
+#include "texts.h"
+#include "trials.h"
+#include "wide.h"
 
-enum { ROOT = 65535, ROOM = 48, GUARD = 4, GUARD_WORD = 48879, LENT_WORDS = GUARD + ROOM + GUARD, BUFFERS = 3 };
-
-#define COUNT(table) (sizeof(table) / sizeof *(table))
+enum { ROOM = 48, LENT_WORDS = GUARD + ROOM + GUARD, BUFFERS = 3 };
 
 // The words of a buffer; those that are not given are 0.
 struct words {
@@ -26,29 +25,6 @@ struct example {
     uint64_t answer;
     struct words lent[BUFFERS], left[BUFFERS];
 };
-
-#define ACCEPTED 0
-#define REFUSED(number, place) ((number) + 256 * (place))
-#define COUNTED(both, first, second) (65536 * ((both) + 65536 * ((first) + (uint64_t)65536 * (second))))
-
-// The case: three runs of 5 samples, what two of them hold, and what all of them hold.
-#define RUN_1 8, 7, 7, 6, 5, 5, ROOT, 5, 6, 0
-#define RUN_2 8, 6, 6, 6, 7, 7, ROOT, 5, 5, 0
-#define RUN_2_OTHERWISE 8, 7, 7, 7, 6, 6, ROOT, 5, 5, 0
-#define RUN_3 9, 7, 7, 5, 8, 8, ROOT, 5, 6, 6
-#define AGREED 9, 7, 7, 6, 8, 8, ROOT, 5, 6, 5
-#define SUPPORT 3, 3, 3, 3, 3, 3, 3, 2, 2, 2
-#define AGREED_BY_ALL 6, 5, 5, 5, 5, 5, ROOT, 0, 0, 0
-#define SUPPORT_BY_ALL 3, 3, 3, 3, 3, 3, 3, 0, 0, 0
-
-// Rows of 2 and of 3 samples: the only tree of 2; with the group {0,1}, the same in another numbering, with {0,2}, with neither; and one
-// whose node 4 has one child.
-#define ONLY_OF_2 3, 2, 2, ROOT
-#define WITH_01 5, 4, 4, 3, ROOT, 3
-#define WITH_01_OTHERWISE 5, 3, 3, 4, 4, ROOT
-#define WITH_02 5, 4, 3, 4, ROOT, 3
-#define BARE_3 4, 3, 3, 3, ROOT, 0
-#define ONE_CHILD 5, 4, 3, 3, ROOT, 3
 
 #define OLD_6 9, 9, 9, 9, 9, 9
 #define OLD_10 OLD_6, 9, 9, 9, 9
@@ -209,17 +185,6 @@ static const struct bad_threshold {
     {"report: p is the largest size_t", (size_t)-1},
 };
 
-static int passed, failed;
-
-static void check(const char *name, int is_right) {
-    if (is_right) {
-        passed++;
-        return;
-    }
-    failed++;
-    printf("failed: %s\n", name);
-}
-
 // A buffer among guard words.
 struct lent {
     uint16_t words[LENT_WORDS];
@@ -228,18 +193,6 @@ struct lent {
 static void lend(struct lent *to, const struct words *from) {
     for (size_t i = 0; i < LENT_WORDS; i++) to->words[i] = GUARD_WORD;
     memcpy(to->words + GUARD, from->at, from->length * sizeof *from->at);
-}
-
-static void say(uint64_t answer) {
-    if (ARB_ACCEPTED(answer)) printf("accepted, counts %u %u %u", ARB_IN_BOTH(answer), ARB_ONLY_FIRST(answer), ARB_ONLY_SECOND(answer));
-    else printf("refused with %u at %u", ARB_NUMBER(answer), ARB_PLACE(answer));
-    printf(" (%lx)", (unsigned long)answer);
-}
-
-static int same_answer(uint64_t expected, uint64_t came) {
-    if (came == expected) return 1;
-    printf("expected "), say(expected), printf(", came "), say(came), printf("\n");
-    return 0;
 }
 
 // Whether a buffer and its guards are as expected. A word before the buffer or after it is a guard.
@@ -289,6 +242,7 @@ static void test_bad_row(const struct bad_row *bad) {
         {"compare: a bad second row", COMPARE, 3, moved, {good, bad->row}},
     };
     for (size_t i = 0; i < COUNT(examples); i++) test_example(&examples[i]);
+    check("write: a bad row", refuses_written(bad->row.at, answer));
 }
 
 static void test_bad_threshold(const struct bad_threshold *bad) {
@@ -306,20 +260,6 @@ static void test_without_buffers(void) {
     check("compare: NULL and no words", same_answer(3, arb_compare(5, NULL, 0, NULL, 0)));
 }
 
-// Two trees of 512 samples, in standard numbering: the root over all samples, and {0,1} below the root.
-enum { WIDE = ARB_MOST_SAMPLES, WIDE_ROW = ARB_ROW_WORDS(WIDE), WIDE_SLOT = ARB_SLOT_WORDS(WIDE) };
-static uint16_t wide_rows[2][WIDE_ROW];
-
-static void write_wide_rows(void) {
-    for (int i = 0; i < 2; i++) {
-        wide_rows[i][0] = WIDE + 1 + i;
-        for (int v = 0; v < WIDE; v++) wide_rows[i][1 + v] = WIDE;
-        wide_rows[i][1 + WIDE] = ROOT;
-    }
-    wide_rows[1][1 + 0] = wide_rows[1][1 + 1] = WIDE + 1;
-    wide_rows[1][1 + WIDE + 1] = WIDE;
-}
-
 // Whether the report at p of a study of 512 samples has this agreed row and supports of k, where `pair` runs hold {0,1}.
 static int same_report(const uint16_t *study, size_t length, size_t p, const uint16_t *row, uint16_t k, uint16_t pair) {
     static uint16_t agreed[WIDE_ROW], support[WIDE_ROW], expected[WIDE_ROW];
@@ -335,24 +275,6 @@ static void test_most_samples(void) {
     check("512 samples are taken", same_answer(ACCEPTED, arb_open(WIDE, study, COUNT(study))));
     check("their run is added", same_answer(ACCEPTED, arb_add(study, COUNT(study), ARB_MOST_IDENTIFIER, wide_rows[0], WIDE_ROW)));
     check("their run is reported itself, with support 1", same_report(study, COUNT(study), 0, wide_rows[0], 1, 0));
-}
-
-// The deepest tree of 512 samples, a chain of all inner nodes with sample 0 at its end: in standard numbering, which is from the root down
-// (RULES 4.1), and numbered from the end up.
-enum { END = WIDE - 2, LAST = WIDE + END };
-static uint16_t chain_down[WIDE_ROW], chain_up[WIDE_ROW];
-
-static void write_chains(void) {
-    chain_down[0] = chain_up[0] = LAST + 1;
-    for (int sample = 0; sample < WIDE; sample++) {
-        int depth = sample == 0 ? END : WIDE - 1 - sample;
-        chain_down[1 + sample] = WIDE + depth;
-        chain_up[1 + sample] = LAST - depth;
-    }
-    for (int depth = 0; depth <= END; depth++) {
-        chain_down[1 + WIDE + depth] = depth == 0 ? ROOT : WIDE + depth - 1;
-        chain_up[1 + LAST - depth] = depth == 0 ? ROOT : LAST - depth + 1;
-    }
 }
 
 static void test_deepest(void) {
@@ -408,13 +330,18 @@ static int refuses_samples(const char *call, uint64_t answer) {
 
 static void test_large_n(const struct large_n *l) {
     static uint16_t study[ARB_STUDY_WORDS(WIDE, 1)], out[WIDE_ROW];
+    static const uint8_t tree[] = "((0,1),2);";
+    uint8_t text[ARB_TEXT_BYTES(WIDE)] = {0};
     memset(study, 0, sizeof study);
     memset(out, 0, sizeof out);
     int is_right = refuses_samples("open", arb_open(l->n, study, COUNT(study)));
     is_right &= refuses_samples("judge", arb_judge(l->n, l->row, l->words));
     is_right &= refuses_samples("renumber", arb_renumber(l->n, l->row, l->words, out, l->words));
     is_right &= refuses_samples("compare", arb_compare(l->n, l->row, l->words, l->row, l->words));
-    check(l->name, is_right && study[0] == 0 && out[0] == 0);
+    is_right &= refuses_samples("read", arb_read_newick(l->n, tree, sizeof tree - 1, out, l->words));
+    is_right &= refuses_samples("write", arb_write_newick(l->n, l->row, l->words, text, sizeof text));
+    is_right &= refuses_samples("write with supports", arb_write_newick_supports(l->n, l->row, l->words, l->row, l->words, text, sizeof text));
+    check(l->name, is_right && study[0] == 0 && out[0] == 0 && text[0] == 0);
 }
 
 // Room for a study of more words than 16 bits can count, and for guard words after it.
@@ -506,6 +433,7 @@ int main(void) {
     test_long_study(LONG, 68);
     test_long_report();
     test_macros();
+    test_texts();
     printf("%d passed, %d failed\n", passed, failed);
     return failed != 0 || passed == 0;
 }

@@ -1,8 +1,8 @@
 // Measures the stack that each call of include/arb.h takes, callees included. A call is made on a stack of its own that was painted first,
 // and the lowest byte that is no longer paint says how deep it went. It is made on trees of several shapes, beside studies of several sizes,
-// with each change of one table that applies to it, so that every refusal comes too; the table has the number that the rules expect. Prints
-// a line for each call, 'judge 152', the most bytes over all its inputs. The status is 0 only if each answer had the number expected and
-// each change was tried.
+// with each change of one table that applies to it, so that every refusal comes too; the table has the number that the rules expect. Reading
+// is also made on the deepest texts. Prints a line for each call, 'judge 152', the most bytes over all its inputs. The status is 0 only if
+// each answer had the number expected and each change was tried.
 #include "arb.h"
 #include <stdio.h>
 #include <string.h>
@@ -11,14 +11,18 @@
 enum { ONE = 1, SEVERAL = 5, MANY = 200, TURNS = 5, COMMON_TURNS = 3 };
 enum { RUNS_AT = 5, ROW_ROOM = ARB_ROW_WORDS(ARB_MOST_SAMPLES), STUDY_ROOM = ARB_STUDY_WORDS(ARB_MOST_SAMPLES, SEVERAL + 1) };
 
+// Brackets that may be open at once; bytes of the longest text that is read, and fewer than any text has.
+enum { MOST_OPEN = 511, TEXT_ROOM = 32 * ARB_MOST_SAMPLES, TOO_SHORT = 5 };
+
 #define COUNT(table) (sizeof(table) / sizeof *(table))
 
 // The calls, and sets of them.
-enum call { OPEN, ADD, WITHDRAW, REPORT, JUDGE, RENUMBER, COMPARE, CALLS };
+enum call { OPEN, ADD, WITHDRAW, REPORT, JUDGE, RENUMBER, COMPARE, READ, WRITE, WRITE_SUPPORTS, CALLS };
 #define IN(call) (1u << (call))
-#define TAKES_N (IN(OPEN) | IN(JUDGE) | IN(RENUMBER) | IN(COMPARE))
+#define WRITES_TEXT (IN(WRITE) | IN(WRITE_SUPPORTS))
+#define TAKES_N (IN(OPEN) | IN(JUDGE) | IN(RENUMBER) | IN(COMPARE) | IN(READ) | WRITES_TEXT)
 #define TAKES_STUDY (IN(ADD) | IN(WITHDRAW) | IN(REPORT))
-#define TAKES_ROW (IN(ADD) | IN(JUDGE) | IN(RENUMBER) | IN(COMPARE))
+#define TAKES_ROW (IN(ADD) | IN(JUDGE) | IN(RENUMBER) | IN(COMPARE) | WRITES_TEXT)
 
 typedef void (*function)(void);
 
@@ -33,6 +37,9 @@ static const struct {
     [JUDGE] = {"judge", (function)arb_judge},
     [RENUMBER] = {"renumber", (function)arb_renumber},
     [COMPARE] = {"compare", (function)arb_compare},
+    [READ] = {"read_newick", (function)arb_read_newick},
+    [WRITE] = {"write_newick", (function)arb_write_newick},
+    [WRITE_SUPPORTS] = {"write_newick_supports", (function)arb_write_newick_supports},
 };
 
 struct row {
@@ -40,13 +47,20 @@ struct row {
     uint16_t at[ROW_ROOM];
 };
 
+struct text {
+    size_t length;
+    uint8_t at[TEXT_ROOM];
+};
+
 // What any of the calls can be made with. `fresh` is the identifier for adding, `taken` the one for withdrawing; comparing takes `row` and
-// `other`, in this order unless `row_is_second`; `out` is what renumbering writes, and the agreed row of a report.
+// `other`, in this order unless `row_is_second`; `out` is what renumbering and reading write, and the agreed row of a report; `support` is
+// what a report writes, and what is written behind brackets; `text` is read, and `written` is written.
 struct input {
     size_t n, p;
     uint16_t fresh, taken;
     int row_is_second;
     struct row row, other, out, support;
+    struct text text, written;
     size_t study_length;
     uint16_t study[STUDY_ROOM];
 };
@@ -70,10 +84,10 @@ static const struct tree {
 
 // What is changed in an input that is in order.
 enum part { NOTHING, N, P, STUDY_MARK, STUDY_ROW, STUDY_END, STUDY_SHORT, STUDY_FULL, ROW_LENGTH, OUT_LENGTH, SUPPORT_LENGTH, NO_IDENTIFIER,
-    IDENTIFIER_TAKEN, IDENTIFIER_ABSENT, NODES, PARENT, ROOT, FILLER, LOST, CHILDREN };
+    IDENTIFIER_TAKEN, IDENTIFIER_ABSENT, NODES, PARENT, ROOT, FILLER, LOST, CHILDREN, ROOM, TEXT_BYTE, TEXT_END, TEXT_SAMPLE, TEXT_PAIR };
 
-// What the input must have for that: runs in force, none, words of filler, an inner node besides the root.
-enum need { ANY, RUNS, NO_RUNS, FILLING, INNER };
+// What the input must have for that: runs in force, none, words of filler, an inner node besides the root, a text to which a bracket can be added.
+enum need { ANY, RUNS, NO_RUNS, FILLING, INNER, SHALLOW };
 
 // `to` is the new n or p, `number` the refusal that follows, or 0.
 static const struct change {
@@ -97,8 +111,9 @@ static const struct change {
     {STUDY_SHORT, 0, ARB_REFUSAL_STUDY, ANY, TAKES_STUDY},
     {STUDY_SHORT, 0, ARB_REFUSAL_WORDS, ANY, IN(OPEN)},
     {ROW_LENGTH, 0, ARB_REFUSAL_WORDS, ANY, TAKES_ROW},
-    {OUT_LENGTH, 0, ARB_REFUSAL_WORDS, ANY, IN(RENUMBER) | IN(REPORT)},
-    {SUPPORT_LENGTH, 0, ARB_REFUSAL_WORDS, ANY, IN(REPORT)},
+    {OUT_LENGTH, 0, ARB_REFUSAL_WORDS, ANY, IN(RENUMBER) | IN(REPORT) | IN(READ)},
+    {SUPPORT_LENGTH, 0, ARB_REFUSAL_WORDS, ANY, IN(REPORT) | IN(WRITE_SUPPORTS)},
+    {ROOM, 0, ARB_REFUSAL_WORDS, ANY, WRITES_TEXT},
     {NO_IDENTIFIER, 0, ARB_REFUSAL_IDENTIFIER, ANY, IN(ADD) | IN(WITHDRAW)},
     {NODES, 0, ARB_REFUSAL_NODES, ANY, TAKES_ROW},
     {PARENT, 0, ARB_REFUSAL_PARENT, ANY, TAKES_ROW},
@@ -112,19 +127,23 @@ static const struct change {
     {NOTHING, 0, ARB_REFUSAL_EMPTY, NO_RUNS, IN(REPORT)},
     {P, ARB_LEAST_THRESHOLD - 1, ARB_REFUSAL_THRESHOLD, ANY, IN(REPORT)},
     {P, ARB_MOST_THRESHOLD + 1, ARB_REFUSAL_THRESHOLD, ANY, IN(REPORT)},
+    {TEXT_BYTE, 0, ARB_REFUSAL_FORM, ANY, IN(READ)},
+    {TEXT_END, 0, ARB_REFUSAL_FORM, ANY, IN(READ)},
+    {TEXT_SAMPLE, 0, ARB_REFUSAL_LEAVES, ANY, IN(READ)},
+    {TEXT_PAIR, 0, ARB_REFUSAL_CHILDREN, SHALLOW, IN(READ)},
 };
 
 static int was_tried[COUNT(changes)], failures;
 static size_t deepest[CALLS];
 
 static void fail(enum call call, const struct input *in, unsigned number, uint64_t answer) {
-    printf("failed: %s, n = %u, k = %u: expected %u, came %u at %u\n", calls[call].name, (unsigned)in->n, in->study[RUNS_AT], number,
-        ARB_NUMBER(answer), ARB_PLACE(answer));
+    printf("failed: %s, n = %zu, k = %u: expected %u, came %u at %zu\n", calls[call].name, in->n, in->study[RUNS_AT], number, ARB_NUMBER(answer),
+        ARB_PLACE(answer));
     failures++;
 }
 
 // The painted stack, larger than any bound. Its top is aligned as a call needs it; above it is what a caller puts there, the seventh argument.
-enum { STACK_BYTES = 128 * 1024, ARGUMENTS = 7 };
+enum { STACK_BYTES = 256 * 1024, ARGUMENTS = 7 };
 static struct {
     unsigned char bytes[STACK_BYTES];
     uint64_t seventh;
@@ -168,6 +187,9 @@ static uint64_t answer_of(enum call call, const struct input *in) {
         [JUDGE] = {in->n, AT(in->row.at), in->row.length},
         [RENUMBER] = {in->n, AT(in->row.at), in->row.length, AT(in->out.at), in->out.length},
         [COMPARE] = {in->n, AT(first->at), first->length, AT(second->at), second->length},
+        [READ] = {in->n, AT(in->text.at), in->text.length, AT(in->out.at), in->out.length},
+        [WRITE] = {in->n, AT(in->row.at), in->row.length, AT(in->written.at), in->written.length},
+        [WRITE_SUPPORTS] = {in->n, AT(in->row.at), in->row.length, AT(in->support.at), in->support.length, AT(in->written.at), in->written.length},
     };
     return call_there(calls[call].made, arguments[call]);
 }
@@ -179,7 +201,11 @@ static size_t depth_of(enum call call, const struct input *given, unsigned numbe
     memset(painted.bytes, paint, STACK_BYTES);
     uint64_t answer = answer_of(call, &in);
     if (ARB_NUMBER(answer) != number) fail(call, given, number, answer);
-    return depth(paint);
+    size_t bytes = depth(paint);
+    if (bytes < STACK_BYTES) return bytes;
+    printf("failed: %s took the whole painted stack\n", calls[call].name);
+    failures++;
+    return bytes;
 }
 
 // The first call does not count: it may be the one in which the dynamic linker looks for memcpy or memset, on the same stack.
@@ -214,6 +240,35 @@ static void change_row(enum part part, size_t n, uint16_t *row) {
     if (part == CHILDREN) leave_one_child(inner, root, row);
 }
 
+static void put(const char *bytes, struct text *t) {
+    while (*bytes) t->at[t->length++] = *bytes++;
+}
+
+static size_t brackets(const struct text *t) {
+    size_t found = 0;
+    for (size_t i = 0; i < t->length; i++) found += t->at[i] == '(';
+    return found;
+}
+
+// Puts a pair around the tree of a text.
+static void put_around(struct text *t) {
+    for (size_t i = t->length; i > 0; i--) t->at[i] = t->at[i - 1];
+    t->at[0] = '(';
+    t->at[t->length] = ')';
+    t->length++;
+    put(";", t);
+}
+
+// Sample 0 stands behind the first brackets. It gives way to a 0 byte, or to another 1.
+static void change_text(enum part part, struct text *t) {
+    size_t first = 0;
+    while (t->at[first] == '(') first++;
+    if (part == TEXT_BYTE) t->at[first] = 0;
+    if (part == TEXT_END) t->length--;
+    if (part == TEXT_SAMPLE) t->at[first] = '1';
+    if (part == TEXT_PAIR) put_around(t);
+}
+
 static void make_change(const struct change *c, struct input *in) {
     size_t n = in->n, k = in->study[RUNS_AT];
     switch (c->part) {
@@ -231,6 +286,8 @@ static void make_change(const struct change *c, struct input *in) {
     case NO_IDENTIFIER: in->fresh = in->taken = 0; break;
     case IDENTIFIER_TAKEN: in->fresh = in->taken; break;
     case IDENTIFIER_ABSENT: in->taken = in->fresh; break;
+    case ROOM: in->written.length = TOO_SHORT; break;
+    case TEXT_BYTE: case TEXT_END: case TEXT_SAMPLE: case TEXT_PAIR: change_text(c->part, &in->text); break;
     default: change_row(c->part, n, in->row.at);
     }
 }
@@ -243,6 +300,7 @@ static int has(const struct input *in, enum need need) {
     case NO_RUNS: return k == 0;
     case FILLING: return m < 2 * in->n - 1;
     case INNER: return m > in->n + 1;
+    case SHALLOW: return brackets(&in->text) < MOST_OPEN;
     }
     return 0;
 }
@@ -321,6 +379,14 @@ static void fill_study(const struct tree *tree, size_t k, struct input *in) {
     if (!ARB_ACCEPTED(answers)) fail(ADD, in, 0, answers);
 }
 
+// The text of the input's row, with the largest supports.
+static void write_text(struct input *in) {
+    memset(in->support.at, 255, sizeof in->support.at);
+    uint64_t answer = arb_write_newick_supports(in->n, in->row.at, in->row.length, in->support.at, in->support.length, in->text.at, TEXT_ROOM);
+    if (!ARB_ACCEPTED(answer)) fail(WRITE_SUPPORTS, in, 0, answer);
+    in->text.length = ARB_LENGTH(answer);
+}
+
 static void try_input(const struct size *size, const struct tree *tree) {
     static struct input in;
     memset(&in, 0, sizeof in);
@@ -328,15 +394,76 @@ static void try_input(const struct size *size, const struct tree *tree) {
     in.taken = 2;
     in.fresh = in.taken + 1;
     in.out.length = in.support.length = ARB_ROW_WORDS(in.n);
+    in.written.length = ARB_TEXT_BYTES(in.n);
     draw(tree, in.n, &in.row);
     draw(tree, in.n, &in.other);
     fill_study(tree, size->k, &in);
+    write_text(&in);
     for (size_t i = 0; i < COUNT(changes); i++) try_change(i, &in);
+}
+
+// The deepest texts: pairs that hold one subtree each, around two samples; and caterpillars that go deeper at the first subtree of each pair, or at
+// the last. They are bare, or have blanks, supports and lengths wherever these may stand; and they are whole, end early behind the deepest sample, or
+// have a 0 byte there.
+enum deep { SINGLES, AT_FIRST, AT_LAST, DEEPS };
+enum end { WHOLE, EARLY, SPOILT, ENDS };
+static const struct dress {
+    const char *blank, *support, *length;
+} dresses[] = {{"", "", ""}, {" ", "65535", " : 1.25 "}};
+
+static void put_sample(size_t s, const struct dress *dress, struct text *t) {
+    char digits[] = {s / 100 + '0', s / 10 % 10 + '0', s % 10 + '0', 0};
+    put(dress->blank, t);
+    put(digits + (s < 10 ? 2 : s < 100 ? 1 : 0), t);
+    put(dress->length, t);
+}
+
+// The innermost pair has samples 0 and 1, but the last two of a caterpillar that goes deeper at the last subtree. Answers where its first sample ends.
+static size_t put_deep(enum deep deep, size_t pairs, const struct dress *dress, struct text *t) {
+    size_t deepest;
+    for (size_t i = 0; i < pairs; i++) {
+        put(dress->blank, t);
+        put("(", t);
+        if (deep == AT_LAST && i < pairs - 1) put_sample(i, dress, t), put(",", t);
+    }
+    size_t sample = deep == AT_LAST ? pairs - 1 : 0;
+    put_sample(sample, dress, t);
+    deepest = t->length;
+    for (size_t i = 0; i < pairs; i++) {
+        if (i == 0 || deep == AT_FIRST) put(",", t), put_sample(++sample, dress, t);
+        put(")", t);
+        put(dress->support, t);
+        put(dress->length, t);
+    }
+    put(";", t);
+    put(dress->blank, t);
+    return deepest;
+}
+
+static void try_deep(enum deep deep, size_t pairs, const struct dress *dress, enum end end) {
+    static struct input in;
+    unsigned number = pairs > MOST_OPEN || end != WHOLE ? ARB_REFUSAL_FORM : deep == SINGLES ? ARB_REFUSAL_CHILDREN : 0;
+    memset(&in, 0, sizeof in);
+    in.n = deep == SINGLES ? ARB_FEWEST_SAMPLES : pairs + 1;
+    in.out.length = ARB_ROW_WORDS(in.n);
+    size_t deepest = put_deep(deep, pairs, dress, &in.text);
+    if (end == EARLY) in.text.length = deepest;
+    if (end == SPOILT) in.text.at[deepest] = 0;
+    measure(READ, &in, number);
+}
+
+static void try_deep_texts(void) {
+    for (size_t i = 0; i < COUNT(dresses); i++) {
+        for (int deep = 0; deep < DEEPS; deep++)
+            for (int end = 0; end < ENDS; end++) try_deep(deep, MOST_OPEN, &dresses[i], end);
+        try_deep(SINGLES, MOST_OPEN + 1, &dresses[i], WHOLE);
+    }
 }
 
 int main(void) {
     for (size_t i = 0; i < COUNT(sizes); i++)
         for (size_t j = 0; j < COUNT(trees); j++) try_input(&sizes[i], &trees[j]);
+    try_deep_texts();
     for (size_t i = 0; i < COUNT(changes); i++) {
         if (was_tried[i]) continue;
         printf("failed: no input was right for change %u\n", (unsigned)i);

@@ -11,10 +11,11 @@ import struct
 from collections import Counter
 from typing import Callable, Iterator, NamedTuple
 
+import newick
 import rules
 from rules import Answer, Words
 
-OPEN, ADD, WITHDRAW, REPORT, JUDGE, RENUMBER, COMPARE = range(1, 8)
+OPEN, ADD, WITHDRAW, REPORT, JUDGE, RENUMBER, COMPARE, READ, WRITE = range(1, 10)
 NAMES = {
     OPEN: "open",
     ADD: "add",
@@ -23,9 +24,14 @@ NAMES = {
     JUDGE: "judge",
     RENUMBER: "renumber",
     COMPARE: "compare",
+    READ: "read",
+    WRITE: "write",
 }
 # How many buffers each call takes.
 BUFFERS = {OPEN: 1, ADD: 2, WITHDRAW: 1, REPORT: 3, JUDGE: 1, RENUMBER: 2, COMPARE: 2}
+BUFFERS |= {READ: 2, WRITE: 3}
+# Which of them is a text, one byte in each word.
+TEXT = {READ: 0, WRITE: 2}
 # The numbers that each call can give back, 0 for accepted.
 OF_A_ROW = {5, 6, 7, 8, 9, 10}
 NUMBERS = {
@@ -36,13 +42,19 @@ NUMBERS = {
     JUDGE: {0, 1, 3} | OF_A_ROW,
     RENUMBER: {0, 1, 3} | OF_A_ROW,
     COMPARE: {0, 1, 3} | OF_A_ROW,
+    READ: {0, 1, 3, 10, 17, 18},
+    WRITE: {0, 1, 3} | OF_A_ROW,
 }
+WITH_SUPPORTS = 1  # y of writing, if supports are wanted
 HEAD = 6  # words before the buffers, in a request and in a reply
 LONGEST = 32768  # words in a buffer
 
 
 class Call(NamedTuple):
-    """One request: x is n, an identifier or a threshold; y is 0 where nothing needs it."""
+    """One request: x is n, an identifier or a threshold; y is 0 where nothing needs it.
+
+    Writing without supports has an empty support row.
+    """
 
     op: int
     x: int
@@ -110,11 +122,15 @@ ANSWERS: dict[int, Callable[[int, list[Words]], Answer]] = {
     JUDGE: lambda x, buffers: rules.judge(x, buffers[0]),
     RENUMBER: lambda x, buffers: rules.renumber(x, *buffers),
     COMPARE: lambda x, buffers: rules.compare(x, *buffers),
+    READ: lambda x, buffers: newick.read(x, *buffers),
 }
 
 
 def answer(call: Call) -> Answer:
     """What the rules answer to a call."""
+    if call.op == WRITE:
+        row, support, text = call.buffers
+        return newick.write(call.x, row, support if call.y == WITH_SUPPORTS else None, text)
     return ANSWERS[call.op](call.x, call.buffers)
 
 

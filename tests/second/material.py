@@ -9,11 +9,13 @@ from typing import Callable, Iterator, NamedTuple
 import calls_compare
 import calls_judge
 import calls_last_checks
+import calls_newick_read
+import calls_newick_write
 import calls_nontrivial
 import calls_renumber
 import calls_report
 import calls_studies
-from calls import ADD, COMPARE, JUDGE, OPEN, RENUMBER, REPORT, WITHDRAW, Call
+from calls import ADD, COMPARE, JUDGE, OPEN, READ, RENUMBER, REPORT, WITHDRAW, WRITE, Call
 
 
 class Material(NamedTuple):
@@ -34,6 +36,11 @@ def endless(make: Callable[[Random], Call]) -> Callable[[Random], Iterator[Call]
     return makes
 
 
+def appended(rng: Random) -> Iterator[Call]:
+    """Nothing: what is stored of the op is all among the calls appended."""
+    return iter([])
+
+
 # The ops whose calls are stored.
 MATERIAL = [
     Material(JUDGE, calls_judge.stored, endless(calls_judge.at_random)),
@@ -43,13 +50,20 @@ MATERIAL = [
     Material(ADD, calls_studies.stored_add, calls_studies.random_add),
     Material(WITHDRAW, calls_studies.stored_withdraw, calls_studies.random_withdraw),
     Material(REPORT, calls_report.stored, calls_report.random),
+    Material(READ, appended, endless(calls_newick_read.at_random)),
+    Material(WRITE, appended, endless(calls_newick_write.at_random)),
 ]
 
 # Those whose calls are not stored yet: a line moved from here to there stores them.
 LATER: list[Material] = []
 
 # Calls stored behind all of these, in this order: what was stored before stays the first bytes.
-APPENDED: list[Callable[[], Iterator[Call]]] = [calls_last_checks.stored, calls_nontrivial.stored]
+APPENDED: list[Callable[[], Iterator[Call]]] = [
+    calls_last_checks.stored,
+    calls_nontrivial.stored,
+    calls_newick_read.stored,
+    calls_newick_write.stored,
+]
 
 SEED = 20250  # with the op's number added, so that no op's calls depend on another's
 

@@ -1,12 +1,13 @@
 """Random calls through one program and random files through another, held against the rules.
 
-python3 soak.py --calls N --seed S [--ops 5] PROGRAM [ARGUMENT...]
+python3 soak.py --calls N --seed S [--ops 5] [--texts 6] PROGRAM [ARGUMENT...]
 python3 soak.py --files N --seed S --listing "PROGRAM ARGUMENT..."
 
 The first program reads requests on standard input and writes replies on
 standard output; the second, the listing program, reads a file and writes its
-listing. Both may be named at once. If all agree the last line says so. At the
-first difference the call or the file is shown and the status is 1.
+listing. Both may be named at once. With --texts 6 every Newick text of up to six
+bytes is read too. If all agree the last line says so. At the first difference
+the call or the file is shown and the status is 1.
 """
 
 from __future__ import annotations
@@ -16,7 +17,7 @@ import shlex
 import subprocess
 import sys
 from collections import Counter
-from itertools import islice
+from itertools import chain, islice
 from random import Random
 from typing import Iterator
 
@@ -24,6 +25,7 @@ sys.dont_write_bytecode = True
 
 from calls import (  # noqa: E402
     HEAD,
+    TEXT,
     Call,
     Counts,
     answer,
@@ -35,6 +37,7 @@ from calls import (  # noqa: E402
     table,
     to_bytes,
 )
+from calls_newick_read import every_text  # noqa: E402
 from files import random_file  # noqa: E402
 from listing import listed, number_in  # noqa: E402
 from material import active, known_ops, random_calls  # noqa: E402
@@ -63,7 +66,10 @@ def run(program: list[str], data: bytes) -> tuple[int, bytes]:
 def shown_call(call: Call) -> str:
     """A call in words."""
     lines = [f"call      op {call.op} x {call.x} y {call.y}"]
-    return "\n".join(lines + [f"  buffer  {shown(words)}" for words in call.buffers])
+    lines += [f"  buffer  {shown(words)}" for words in call.buffers]
+    if call.op in TEXT:
+        lines.append(f"  text    {bytes(call.buffers[TEXT[call.op]])!r}")
+    return "\n".join(lines)
 
 
 def shown(words: Words) -> str:
@@ -137,12 +143,19 @@ def agreement(counts: Counts) -> str:
     return f"all {calls} calls and {files} files agree with the second program"
 
 
+def calls_of(options: argparse.Namespace) -> Iterator[Call]:
+    """The random calls that the command line names, and the texts, if it names any."""
+    calls = random_calls(Random(options.seed), options.ops, options.calls)
+    if options.texts is None:
+        return calls
+    return chain(calls, every_text(Random(options.seed), options.texts))
+
+
 def soak(options: argparse.Namespace) -> Counts:
     """Runs what the command line names, up to the first difference."""
     counts: Counts = Counter()
     if options.program:
-        calls = random_calls(Random(options.seed), options.ops, options.calls)
-        counts += soak_calls(options.program, calls, options.batch)
+        counts += soak_calls(options.program, calls_of(options), options.batch)
     if options.listing:
         counts += soak_files(options.listing, Random(options.seed), options.files)
     return counts
@@ -154,6 +167,7 @@ def main() -> int:
     parser.add_argument("--calls", type=int, default=10000)
     parser.add_argument("--seed", type=int, default=1)
     parser.add_argument("--ops", type=known_ops, default=active(), help="such as 5,6")
+    parser.add_argument("--texts", type=int, help="read each text of up to so many bytes too")
     parser.add_argument("--batch", type=int, default=2000, help="calls in one run of the program")
     parser.add_argument("--files", type=int, default=1000)
     parser.add_argument("--listing", type=shlex.split, help="the listing program, in one word")

@@ -32,3 +32,7 @@ RUNS_OF_5 = [
     [8, 6, 6, 6, 7, 7, ROOT, 5, 5, 0],
     [9, 7, 7, 5, 8, 8, ROOT, 5, 6, 6],
 ]
+
+# RULES 10.1: their report, the agreed row and the support row; and its text with the supports.
+REPORT_OF_5 = [[9, 7, 7, 6, 8, 8, ROOT, 5, 6, 5], [3, 3, 3, 3, 3, 3, 3, 2, 2, 2]]
+TEXT_OF_5 = b"(((0,1)2,2)2,(3,4)2);"

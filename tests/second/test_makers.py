@@ -24,7 +24,7 @@ from rules import ROOT
 from specimens import RUNS_OF_5
 
 EVERY_OP = [calls.OPEN, calls.ADD, calls.WITHDRAW, calls.REPORT]
-EVERY_OP += [calls.JUDGE, calls.RENUMBER, calls.COMPARE]
+EVERY_OP += [calls.JUDGE, calls.RENUMBER, calls.COMPARE, calls.READ, calls.WRITE]
 
 # Trees and rows
 

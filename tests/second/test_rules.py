@@ -1,4 +1,4 @@
-"""Holds rules.py against every specimen of docs/RULES.md, and the makers against rules.py.
+"""Holds rules.py against every specimen of docs/RULES.md; runs all other tests too.
 
 python3 test_rules.py
 """
@@ -20,6 +20,7 @@ import rows  # noqa: E402
 import rules  # noqa: E402
 import shapes  # noqa: E402
 import test_makers  # noqa: E402
+import test_newick  # noqa: E402
 import thresholds  # noqa: E402
 from listing import listed  # noqa: E402
 from rules import BY_DEFAULT, ROOT, Tree, Words  # noqa: E402
@@ -641,9 +642,9 @@ def passes(test: Callable[[], None]) -> bool:
 
 
 def main() -> int:
-    """Runs every test, here and of the makers."""
-    named = {**vars(test_makers), **globals()}
-    tests = [test for name, test in named.items() if name.startswith("test_") and callable(test)]
+    """Runs every test, here, of the makers and of Newick texts."""
+    named = [*vars(test_makers).items(), *vars(test_newick).items(), *globals().items()]
+    tests = [test for name, test in named if name.startswith("test_") and callable(test)]
     passed = sum(map(passes, tests))
     print(f"{passed} passed, {len(tests) - passed} failed")
     return 0 if passed == len(tests) else 1

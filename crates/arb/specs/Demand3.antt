@@ -56,7 +56,7 @@ module _ {n : ℕ} {w : List ℕ} {h : List Call} {xs : List Answer} {z : List �
       made-after u (adds given) bs y m ∙ ap (λ (v : List ℕ). after v (adds given)) (f .words) ∙ renewed .words ∙ sym (used-after s),
     )
 
-    -- every later call answers alike on both: the same calls, of all seven kinds and in any sequence, got the same replies and left equal words
+    -- every later call answers alike on both: the same calls, of all ten and in any sequence, got the same replies and left equal words
     pub demand-3-later-calls : (later : List AnyCall) (rs qs : List Reply) (x t : List ℕ) → AllGive z later rs x → AllGive y later qs t → (rs ≡ qs) × (x ≡ t)
     demand-3-later-calls later rs qs x t p q = all-determined z later rs qs x t p (rw (demand-3-calls .2) at q)
 

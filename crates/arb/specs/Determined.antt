@@ -13,6 +13,11 @@ use Rattle.judge.specs.VerdictLaws.{verdict-injective}
 use Rattle.compare.specs.declared.Comparison.{Comparison}
 use Rattle.compare.specs.Comparisons.{comparison}
 use Rattle.compare.specs.ComparisonLaws.{comparison-injective}
+use Rattle.newick.specs.ReadCalls.{reading}
+use Rattle.newick.specs.RowText.{Wanted, writing}
+use Rattle.writer.specs.declared.calls.Written.{Written}
+use Rattle.writer.specs.Writings.{writtenVerdict}
+use Rattle.writer.specs.WritingsLaws.{written-injective}
 
 pub judge-determined : (n : ℕ) (row : List ℕ) (a b : Answer) → verdict a ≡ judged n row → verdict b ≡ judged n row → a ≡ b
 judge-determined n row a b p q = verdict-injective a b (p ∙ sym q)
@@ -53,3 +58,17 @@ pub record Reports (o : Report) (a : Answer) (agreed support : List ℕ) : Type 
 pub report-determined : (words : List ℕ) (p : ℕ) (x y : List ℕ) (a b : Answer) (r s q t : List ℕ)
     → Reports (reported words p x y) a r s → Reports (reported words p x y) b q t → (a ≡ b) × (r ≡ q) × (s ≡ t)
 report-determined words p x y a b r s q t m k = (verdict-injective a b (m .answer ∙ sym (k .answer)), m .row ∙ sym (k .row), m .supports ∙ sym (k .supports))
+
+pub read-determined : (n : ℕ) (text out : List ℕ) (a b : Answer) (v w : List ℕ)
+    → Leaves (reading n text out) a v → Leaves (reading n text out) b w → (a ≡ b) × (v ≡ w)
+read-determined n text out = outcome-determined (reading n text out)
+
+-- what an answer and bytes have to be, where a writing leaves them
+pub record Fills (o : Outcome) (a : Written) (bytes : List ℕ) : Type 0 where
+  pub answer : writtenVerdict a ≡ o .verdict
+  pub bytes-after : bytes ≡ o .words
+
+-- with supports and without
+pub write-determined : (n : ℕ) (row : List ℕ) (w : Wanted) (text : List ℕ) (a b : Written) (x y : List ℕ)
+    → Fills (writing n row w text) a x → Fills (writing n row w text) b y → (a ≡ b) × (x ≡ y)
+write-determined n row w text a b x y p q = (written-injective a b (p .answer ∙ sym (q .answer)), p .bytes-after ∙ sym (q .bytes-after))

@@ -1,15 +1,20 @@
 -- The promise of each call for C determines its number and the words that it leaves, and unpacking the number gives the verdict back. Assumes nothing.
-use Prim.Native.Nat.{ℕ}
+use Prim.Native.Nat.{ℕ, _<_}
 use mathlib.Core.Path.{_≡_, sym, ap, _∙_}
 use mathlib.Core.List.{List}
+use lib.ListN.{length}
 use Rattle.trees.specs.Checks.{judged}
 use Rattle.trees.specs.Outcomes.{Outcome}
 use Rattle.trees.specs.RowCalls.{renumbering, comparing}
 use Rattle.runs.specs.Calls.{opened, added, withdrawn}
 use Rattle.runs.specs.Reports.{Report, reported}
-use Rattle.arb.specs.Packing.{packed, unpacked, unpackedCounts}
+use Rattle.newick.specs.ReadCalls.{reading}
+use Rattle.newick.specs.RowText.{Wanted, writing}
+use Rattle.arb.specs.Packing.{places, packed, unpacked, unpackedCounts, unpackedLength}
 use Rattle.arb.specs.PackingLaws.{opened-unpacked, added-unpacked, withdrawn-unpacked, reported-unpacked}
 use Rattle.arb.specs.PackingLaws.{judged-unpacked, renumbering-unpacked, comparing-unpacked}
+use Rattle.arb.specs.PackingLaws.{reading-unpacked, writing-unpacked}
+use Rattle.writer.specs.Lengths.{SmallWords}
 
 -- what a number and words have to be, where a call for C leaves an outcome
 pub record PackedLeaves (o : Outcome) (x : ℕ) (w : List ℕ) : Type 0 where
@@ -61,4 +66,19 @@ c-report-determined words p a b x y r s q t m k = (
   m .row ∙ sym (k .row),
   m .supports ∙ sym (k .supports),
   ap unpacked (m .answer) ∙ reported-unpacked words p a b,
+)
+
+-- of a text shorter than 2^56 bytes
+pub c-read-determined : (n : ℕ) (text out : List ℕ) → length text < places → (x y : ℕ) (v w : List ℕ)
+    → PackedLeaves (reading n text out) x v → PackedLeaves (reading n text out) y w → Same (reading n text out) x y v w
+c-read-determined n text out h = packed-determined (reading n text out) (reading-unpacked n text out h)
+
+-- with supports, which are words, and without
+pub c-write-determined : (n : ℕ) (row : List ℕ) (s : Wanted) (text : List ℕ) → SmallWords s → (x y : ℕ) (v w : List ℕ)
+    → PackedLeaves (writing n row s text) x v → PackedLeaves (writing n row s text) y w
+    → (x ≡ y) × (v ≡ w) × (unpackedLength x ≡ writing n row s text .verdict)
+c-write-determined n row s text h x y v w p q = (
+  p .answer ∙ sym (q .answer),
+  p .words ∙ sym (q .words),
+  ap unpackedLength (p .answer) ∙ writing-unpacked n row s text h,
 )

@@ -14,7 +14,10 @@ use Rattle.judge.specs.declared.Answer.the-variants.{Accepted}
 use Rattle.judge.specs.Verdicts.{verdict}
 use Rattle.compare.specs.declared.Comparison.{Comparison}
 use Rattle.compare.specs.Comparisons.{comparison}
-use Rattle.arb.specs.Determined.{Leaves, Reports}
+use Rattle.newick.specs.ReadCalls.{reading}
+use Rattle.newick.specs.RowText.{Wanted, writing}
+use Rattle.writer.specs.declared.calls.Written.{Written}
+use Rattle.arb.specs.Determined.{Leaves, Reports, Fills}
 
 -- calls made one after another on words w, where `One` is what one call promises: what they gave back, and the words z in the end
 abbrev pub InTurn : {C R : Type 0} → (List ℕ → C → R → List ℕ → Type 0) → List ℕ → List C → List R → List ℕ → Type 0
@@ -43,7 +46,7 @@ lastGiven h xs i = lastAccepted h (map verdict xs) i
 
 -- ---- any calls
 
--- the seven public calls, each with all that is handed to it but the study's words
+-- the public calls, each with all that is handed to it but the study's words; writing with supports and without are one here
 pub data AnyCall : Type 0 where
   opens : ℕ → AnyCall
   adds : ℕ → List ℕ → AnyCall
@@ -52,13 +55,16 @@ pub data AnyCall : Type 0 where
   judges : ℕ → List ℕ → AnyCall
   renumbers : ℕ → List ℕ → List ℕ → AnyCall
   compares : ℕ → List ℕ → List ℕ → AnyCall
+  reads : ℕ → List ℕ → List ℕ → AnyCall
+  prints : ℕ → List ℕ → Wanted → List ℕ → AnyCall
 
--- what a call gives back but the study's words: its answer, and the rows that it was lent to write
+-- what a call gives back but the study's words: its answer, and the rows or the bytes that it was lent to write
 pub data Reply : Type 0 where
   says : Answer → Reply
   writes : Answer → List ℕ → Reply
   writesBoth : Answer → List ℕ → List ℕ → Reply
   counts : Comparison → Reply
+  fills : Written → List ℕ → Reply
 
 -- what each call promises: on the study's words w this reply, and these words afterwards
 pub data Gives (w : List ℕ) : AnyCall → Reply → List ℕ → Type 0 where
@@ -69,6 +75,9 @@ pub data Gives (w : List ℕ) : AnyCall → Reply → List ℕ → Type 0 where
   judging : {n : ℕ} {row : List ℕ} {a : Answer} → verdict a ≡ judged n row → Gives w (judges n row) (says a) w
   rewriting : {n : ℕ} {row out : List ℕ} {a : Answer} {r : List ℕ} → Leaves (renumbering n row out) a r → Gives w (renumbers n row out) (writes a r) w
   counting : {n : ℕ} {r q : List ℕ} {a : Comparison} → comparison a ≡ comparing n r q → Gives w (compares n r q) (counts a) w
+  taking-in : {n : ℕ} {text out : List ℕ} {a : Answer} {r : List ℕ} → Leaves (reading n text out) a r → Gives w (reads n text out) (writes a r) w
+  printing : {n : ℕ} {row : List ℕ} {s : Wanted} {text : List ℕ} {a : Written} {l : List ℕ}
+      → Fills (writing n row s text) a l → Gives w (prints n row s text) (fills a l) w
 
 -- any calls, their replies, and the words z in the end
 abbrev pub AllGive : List ℕ → List AnyCall → List Reply → List ℕ → Type 0

@@ -15,9 +15,9 @@ use Rattle.judge.specs.declared.Answer.{Answer}
 use Rattle.judge.specs.declared.Answer.the-variants.{Accepted}
 use Rattle.judge.specs.Verdicts.{verdict}
 use Rattle.arb.specs.Determined.{Leaves, open-determined, add-determined, withdraw-determined, report-determined, judge-determined}
-use Rattle.arb.specs.Determined.{renumber-determined, compare-determined}
+use Rattle.arb.specs.Determined.{renumber-determined, compare-determined, read-determined, write-determined}
 use Rattle.arb.specs.Made.{Made, Used, lastGiven, AnyCall, Reply, says, counts, Gives, opening, adding, withdrawing, reporting}
-use Rattle.arb.specs.Made.{judging, rewriting, counting, AllGive}
+use Rattle.arb.specs.Made.{judging, rewriting, counting, taking-in, printing, AllGive}
 
 -- ---- adds and withdrawals
 
@@ -55,6 +55,8 @@ gives-determined w c r s u v (reporting p) (reporting q) = let t = report-determ
 gives-determined w c r s u v (judging p) (judging q) = (ap says (judge-determined _ _ _ _ p q), refl)
 gives-determined w c r s u v (rewriting p) (rewriting q) = let t = renumber-determined _ _ _ _ _ _ _ p q in (cc (t .0, t .1), refl)
 gives-determined w c r s u v (counting p) (counting q) = (ap counts (compare-determined _ _ _ _ _ p q), refl)
+gives-determined w c r s u v (taking-in p) (taking-in q) = let t = read-determined _ _ _ _ _ _ _ p q in (cc (t .0, t .1), refl)
+gives-determined w c r s u v (printing p) (printing q) = let t = write-determined _ _ _ _ _ _ _ _ p q in (cc (t .0, t .1), refl)
 
 -- so do any calls, made one after another
 pub all-determined : (w : List ℕ) (cs : List AnyCall) (xs ys : List Reply) (u v : List ℕ) → AllGive w cs xs u → AllGive w cs ys v → (xs ≡ ys) × (u ≡ v)

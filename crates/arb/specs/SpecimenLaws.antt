@@ -1,16 +1,17 @@
 -- Each specimen of the table holds of the calls' own definitions (RULES 10). Assumes nothing.
 use Prim.Native.Nat.{ℕ, _≤_, _<_}
-use mathlib.Core.Path.{_≡_, refl, ap, _∙_}
-use mathlib.Core.List.{List, [], _∷_, List·Memᴰ, List·Memᴰ·head, List·Memᴰ·tail}
+use mathlib.Core.Path.{_≡_, refl, sym, ap, _∙_}
+use mathlib.Core.List.{List, [], _∷_, _++_, List·Memᴰ, List·Memᴰ·head, List·Memᴰ·tail}
 use mathlib.Core.Bool.{Bool, true, _&&_, cond}
 use native.Mathlib.Omega.{arith}
-use lib.Dec.{leb}
-use lib.ListN.{length}
-use borrow.Author.Tests.{leb-true}
+use lib.Dec.{eqb, ltb, leb}
+use lib.ListN.{length, drop}
+use borrow.Author.Tests.{leb-true, eq-eqb, lt-ltb}
 use Rattle.trees.specs.Lists.{tabulate, filter, first, weigh}
 use Rattle.trees.specs.Groups.{size, lowest, same, listFirst, before, member}
 use Rattle.trees.specs.Rows.{nodes, parent, meets, ends, groupAt, groups}
-use Rattle.trees.specs.Checks.{Verdict, accepted, refused, _⊳_, rowWords, outside, rowChecks, judgeChecks, judged}
+use Rattle.trees.specs.Lists.{nowhere}
+use Rattle.trees.specs.Checks.{Verdict, accepted, refused, wrote, Check, _⊳_, rowWords, outside, check1, rowChecks, judgeChecks, judged}
 use Rattle.trees.specs.Valid.{isAccepted}
 use Rattle.trees.specs.Numbering.{enter, ordered, groupSet, lastWith, parents, rowOf, renumbered}
 use Rattle.trees.specs.Comparing.{nontrivial, compared}
@@ -32,7 +33,18 @@ use Rattle.runs.specs.HistoryLaws.{study-kept}
 use Rattle.runs.specs.FreshLaws.{Fit, gathered, filled-takes, filled-words}
 use Rattle.runs.specs.ReportLaws.{reported-accepts}
 use Rattle.trees.specs.Case.{agreedRow, supportRow}
-use Rattle.arb.specs.Specimens.{Says, renumbers, nodesGive, RunsGive, leaves, shows, AllSay, nothing, _and_, run, row01, row02}
+use Rattle.ascii.specs.Ascii.{ascii}
+use Rattle.ascii.specs.Decimal.{digits, decimal}
+use Rattle.newick.specs.Bytes.{kindOf}
+use Rattle.newick.specs.Tree.{depth}
+use Rattle.newick.specs.Walk.{parsed, walk, final, step, entered, begun, longer, shut, next, last}
+use Rattle.newick.specs.Meaning.{samplesIn, groupOf, groupsOf, groupsIn, above, lone, lonely, lonelyIn}
+use Rattle.newick.specs.Meaning as meaning
+use Rattle.newick.specs.ReadCalls.{treeIn, textChecks, readChecks, rowIn, reading}
+use Rattle.newick.specs.RowText.{Wanted, Fitting, gather, byLowest, childrenOf, commas, listed, nodeText, written, check3Wanted, checkRoom, writeChecks, writing}
+use Rattle.newick.specs.RowText.Wanted.{plain, with-words}
+use Rattle.newick.specs.WriteLaws.{writing-accepts, writing-bytes}
+use Rattle.arb.specs.Specimens.{Says, renumbers, nodesGive, RunsGive, leaves, fills, shows, AllSay, nothing, _and_, run, row01, row02}
 use Rattle.arb.specs.Specimens.{caseRuns, trivialRow, trivialSupports, threeRuns, twoRuns, specimens}
 
 -- ---- renumbering
@@ -113,6 +125,69 @@ reports-so n rs words p a s c f w x y l d e = record { opens = opens; takes = fi
       inRange = f .inRange;
       some = c .some;
     }) ∙ rw (f .counts, f .row) refl
+
+-- ---- texts
+
+-- what lines 17, 18 and 10 answer
+abbrev Comes : ℕ → List ℕ → Verdict → Type 0
+Comes n l v = textChecks n (parsed l) (length l) ⊳ accepted ≡ v
+
+-- n and the output are in order, and what a text comes to decides
+text-decides : (n : ℕ) (l out : List ℕ) (v : Verdict) → check1 n .fault ≡ nowhere → Comes n l v → length out ≡ rowWords n
+    → readChecks n (parsed l) (length l) out ⊳ accepted ≡ v
+unfolding readChecks _⊳_
+text-decides n l out v a e f = rw (a, eq-eqb (length out) (rowWords n) f) e
+
+unread-so : (n : ℕ) (l : List ℕ) (v : Verdict) → check1 n .fault ≡ nowhere → Comes n l v → (out : List ℕ) → length out ≡ rowWords n
+    → reading n l out .verdict ≡ v
+unfolding reading
+unread-so n l v a e out f = text-decides n l out v a e f
+
+reads-so : (n : ℕ) (l r : List ℕ) → check1 n .fault ≡ nowhere → Comes n l accepted → rowIn n (treeIn (parsed l)) ≡ r
+    → (out : List ℕ) → length out ≡ rowWords n → reading n l out ≡ leaves r
+unfolding reading
+reads-so n l r a e g out f = ap left (text-decides n l out accepted a e f) ∙ ap leaves g
+  where
+    left : Verdict → Outcome
+    left v = record { verdict = v; words = cond (isAccepted v) (rowIn n (treeIn (parsed l))) out }
+
+texts-read : Comes 5 (ascii "(((0,1)2,2)2,(3,4)2);") accepted × Comes 5 (ascii "(((0,1),2),(3,4));") accepted × Comes 2 (ascii "(0,1);") accepted
+    × (rowIn 5 (treeIn (parsed (ascii "(((0,1)2,2)2,(3,4)2);"))) ≡ agreedRow)
+    × (rowIn 5 (treeIn (parsed (ascii "(((0,1),2),(3,4));"))) ≡ agreedRow)
+    × (rowIn 2 (treeIn (parsed (ascii "(0,1);"))) ≡ (3 ∷ 2 ∷ 2 ∷ 65535 ∷ []))
+unfolding textChecks rowIn _⊳_ parsed walk final step entered begun longer shut next last kindOf depth
+    meaning.samples samplesIn groupOf groupsOf groupsIn above lone lonely lonelyIn
+    filter tabulate first weigh size lowest before same listFirst enter ordered lastWith parents rowOf
+texts-read = (refl, refl, refl, refl, refl, refl)
+
+texts-unread : Comes 2 (ascii "(0,1") (refused 17 4) × Comes 2 (ascii "(00,1);") (refused 17 2) × Comes 2 (ascii "(0,123456);") (refused 17 8)
+    × Comes 2 (ascii "(0 1);") (refused 17 3) × Comes 2 (ascii "(0,1):.5;") (refused 17 6) × Comes 2 (ascii "();") (refused 17 1)
+    × Comes 2 (ascii "(0,0);") (refused 18 0) × Comes 2 (ascii "(0,2);") (refused 18 1) × Comes 2 (ascii "(0,1,7);") (refused 18 7)
+    × Comes 2 (ascii "0;") (refused 18 1) × Comes 2 (ascii "(((0)),1);") (refused 10 1)
+unfolding textChecks rowIn _⊳_ parsed walk final step entered begun longer shut next last kindOf depth
+    meaning.samples samplesIn groupOf groupsOf groupsIn above lone lonely lonelyIn
+    filter tabulate first weigh size lowest before same listFirst enter ordered lastWith parents rowOf
+texts-unread = (refl, refl, refl, refl, refl, refl, refl, refl, refl, refl, refl)
+
+-- the text of a valid row, in a buffer that is long enough
+writes-so : (n : ℕ) (r : List ℕ) (w : Wanted) (l : List ℕ) → judged n r ≡ accepted → Fitting n w → written n r w ≡ l
+    → (text : List ℕ) → length l ≤ length text → writing n r w text ≡ fills l text
+writes-so n r w l ok f e text h =
+    let a : writing n r w text .verdict ≡ wrote (length l) = writing-accepts n r w text (length l) .1 (judged-valid n r ok, f, ap length (sym e), rw e h) in
+    let b = writing-bytes n r w text (length l) a .1 in
+    outcome-same (writing n r w text) (wrote (length l)) (l ++ drop (length l) text) a (b ∙ rw e refl)
+  where
+    outcome-same : (o : Outcome) (v : Verdict) (ws : List ℕ) → o .verdict ≡ v → o .words ≡ ws → o ≡ record { verdict = v; words = ws }
+    outcome-same o v ws p q = rw (← p, ← q) refl
+
+texts-written : (written 5 agreedRow (with-words supportRow) ≡ ascii "(((0,1)2,2)2,(3,4)2);") × (written 5 agreedRow plain ≡ ascii "(((0,1),2),(3,4));")
+unfolding written nodeText listed commas childrenOf byLowest gather filter tabulate first weigh nodes parent meets groupAt lowest decimal digits
+texts-written = (refl, refl)
+
+-- 20 bytes are one too few for the first
+too-short : (text : List ℕ) → length text ≡ 20 → writing 5 agreedRow (with-words supportRow) text .verdict ≡ refused 3 0
+unfolding writing writeChecks rowChecks _⊳_ tabulate first weigh nodes parent meets ends
+too-short text e = rw (e, texts-written .0) refl
 
 -- ---- the table
 
@@ -196,4 +271,21 @@ specimens-hold =
     and reports-so 5 _ _ _ _ _ three-runs (three-shown .2)
     and reports-so 5 _ _ _ _ _ three-runs (three-shown .3)
     and reports-so 5 _ _ _ _ _ three-runs (three-shown .4)
+    and writes-so 5 agreedRow (with-words supportRow) _ refl refl (texts-written .0)
+    and writes-so 5 agreedRow plain _ refl tt (texts-written .1)
+    and too-short
+    and reads-so 5 _ _ refl (texts-read .0) (texts-read .3)
+    and reads-so 5 _ _ refl (texts-read .1) (texts-read .4)
+    and reads-so 2 _ _ refl (texts-read .2) (texts-read .5)
+    and unread-so 2 _ _ refl (texts-unread .0)
+    and unread-so 2 _ _ refl (texts-unread .1)
+    and unread-so 2 _ _ refl (texts-unread .2)
+    and unread-so 2 _ _ refl (texts-unread .3)
+    and unread-so 2 _ _ refl (texts-unread .4)
+    and unread-so 2 _ _ refl (texts-unread .5)
+    and unread-so 2 _ _ refl (texts-unread .6)
+    and unread-so 2 _ _ refl (texts-unread .7)
+    and unread-so 2 _ _ refl (texts-unread .8)
+    and unread-so 2 _ _ refl (texts-unread .9)
+    and unread-so 2 _ _ refl (texts-unread .10)
     and nothing

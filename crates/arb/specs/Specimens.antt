@@ -1,10 +1,11 @@
--- The specimens that are proved (RULES 10.1 to 10.6, 10.11): one table, and what each of its rows says of the calls.
+-- The specimens that are proved (RULES 10.1 to 10.6, 10.11, 10.13, 10.14): one table, and what each of its rows says of the calls.
 use Prim.Native.Nat.{ℕ}
 use mathlib.Core.Path.{_≡_}
 use mathlib.Core.List.{List, [], _∷_, _++_}
 use mathlib.Core.Bool.{true}
-use lib.ListN.{length}
-use Rattle.trees.specs.Checks.{Verdict, accepted, refused, counted, rowWords, judged}
+use Prim.Native.Nat.{_≤_}
+use lib.ListN.{length, drop}
+use Rattle.trees.specs.Checks.{Verdict, accepted, refused, counted, wrote, rowWords, judged}
 use Rattle.trees.specs.Valid.{isAccepted}
 use Rattle.trees.specs.Outcomes.{Outcome}
 use Rattle.trees.specs.RowCalls.{renumbering, comparing}
@@ -14,6 +15,10 @@ use Rattle.runs.specs.Runs.{every}
 use Rattle.runs.specs.Calls.{opened}
 use Rattle.runs.specs.Histories.{answers, studyAfter, adds}
 use Rattle.runs.specs.Reports.{Report, reported}
+use Rattle.ascii.specs.Ascii.{ascii}
+use Rattle.newick.specs.ReadCalls.{reading}
+use Rattle.newick.specs.RowText.{Wanted, writing}
+use Rattle.newick.specs.RowText.Wanted.{plain, with-words}
 
 pub data Specimen : Type 0 where
   judges : ℕ → List ℕ → Verdict → Specimen
@@ -22,10 +27,18 @@ pub data Specimen : Type 0 where
   renumbers : ℕ → List ℕ → List ℕ → Specimen
   compares : ℕ → List ℕ → List ℕ → Verdict → Specimen
   reports : ℕ → List Run → List ℕ → ℕ → List ℕ → List ℕ → Specimen
+  reads : ℕ → List ℕ → List ℕ → Specimen
+  unread : ℕ → List ℕ → Verdict → Specimen
+  writes : ℕ → List ℕ → Wanted → List ℕ → Specimen
+  unwritten : ℕ → List ℕ → Wanted → ℕ → Verdict → Specimen
 
 -- what an accepted call leaves in the buffer that it writes, and an accepted report in its two
 abbrev pub leaves : List ℕ → Outcome
 leaves ws = record { verdict = accepted; words = ws }
+
+-- what an accepted writing leaves in its buffer
+abbrev pub fills : List ℕ → List ℕ → Outcome
+fills l text = record { verdict = wrote (length l); words = l ++ drop (length l) text }
 
 abbrev pub shows : List ℕ → List ℕ → Report
 shows a s = record { verdict = accepted; agreedRow = a; supportRow = s }
@@ -39,7 +52,9 @@ pub record RunsGive (n : ℕ) (rs : List Run) (words : List ℕ) (p : ℕ) (a s 
   pub report : reported words p x y ≡ shows a s
 
 -- judging or comparing these words answers this; it is the only tree over n samples; a row of 2n words that begins with m is judged so,
--- whatever its other words are; renumbering these words leaves those, whatever the output held; so does reporting on runs that were added
+-- whatever its other words are; renumbering these words leaves those, whatever the output held; so does reporting on runs that were added;
+-- reading this text leaves these words, or answers this; writing this row leaves this text in front, in any buffer that is as long or longer,
+-- or answers this, in any buffer of so many bytes
 abbrev pub Says : Specimen → Type 0
 Says (judges n r v) = judged n r ≡ v
 Says (onlyTree n r) = (q : List ℕ) → judged n q ≡ accepted → q ≡ r
@@ -47,6 +62,10 @@ Says (nodesGive n m v) = (ws : List ℕ) → length (m ∷ ws) ≡ rowWords n �
 Says (renumbers n r q) = (out : List ℕ) → length out ≡ rowWords n → renumbering n r out ≡ leaves q
 Says (compares n r q v) = comparing n r q ≡ v
 Says (reports n rs words p a s) = (w x y : List ℕ) → length w ≡ length words → length x ≡ rowWords n → length y ≡ rowWords n → RunsGive n rs words p a s w x y
+Says (reads n l r) = (out : List ℕ) → length out ≡ rowWords n → reading n l out ≡ leaves r
+Says (unread n l v) = (out : List ℕ) → length out ≡ rowWords n → reading n l out .verdict ≡ v
+Says (writes n r w l) = (text : List ℕ) → length l ≤ length text → writing n r w text ≡ fills l text
+Says (unwritten n r w k v) = (text : List ℕ) → length text ≡ k → writing n r w text .verdict ≡ v
 
 -- each row of a table says what is so
 infixr 5 _and_
@@ -113,4 +132,23 @@ specimens =
     ∷ reports 5 caseRuns threeRuns 66 agreedRow supportRow
     ∷ reports 5 caseRuns threeRuns 67 trivialRow trivialSupports
     ∷ reports 5 caseRuns threeRuns 100 trivialRow trivialSupports
+    -- the report of the three runs, written and read (RULES 10.13)
+    ∷ writes 5 agreedRow (with-words supportRow) (ascii "(((0,1)2,2)2,(3,4)2);")
+    ∷ writes 5 agreedRow plain (ascii "(((0,1),2),(3,4));")
+    ∷ unwritten 5 agreedRow (with-words supportRow) 20 (refused 3 0)
+    ∷ reads 5 (ascii "(((0,1)2,2)2,(3,4)2);") agreedRow
+    ∷ reads 5 (ascii "(((0,1),2),(3,4));") agreedRow
+    -- texts over two samples (RULES 10.14)
+    ∷ reads 2 (ascii "(0,1);") (3 ∷ 2 ∷ 2 ∷ 65535 ∷ [])
+    ∷ unread 2 (ascii "(0,1") (refused 17 4)
+    ∷ unread 2 (ascii "(00,1);") (refused 17 2)
+    ∷ unread 2 (ascii "(0,123456);") (refused 17 8)
+    ∷ unread 2 (ascii "(0 1);") (refused 17 3)
+    ∷ unread 2 (ascii "(0,1):.5;") (refused 17 6)
+    ∷ unread 2 (ascii "();") (refused 17 1)
+    ∷ unread 2 (ascii "(0,0);") (refused 18 0)
+    ∷ unread 2 (ascii "(0,2);") (refused 18 1)
+    ∷ unread 2 (ascii "(0,1,7);") (refused 18 7)
+    ∷ unread 2 (ascii "0;") (refused 18 1)
+    ∷ unread 2 (ascii "(((0)),1);") (refused 10 1)
     ∷ []

@@ -1,14 +1,19 @@
 // The calls for C: each answers one number, packed as `specs/Packing` says. A slice is a pointer and a length.
 ghost use mathlib.Core.Path.{_≡_};
-ghost use Rattle.trees.specs.Checks.{refused, counted, judged};
+ghost use Rattle.trees.specs.Checks.{refused, counted, wrote, judged};
 ghost use Rattle.trees.specs.RowCalls.{renumbering, comparing};
 ghost use Rattle.runs.specs.Calls.{opened, added, withdrawn};
 ghost use Rattle.runs.specs.Reports.{reported};
 ghost use Rattle.judge.specs.Verdicts.{verdict};
 ghost use Rattle.compare.specs.Comparisons.{comparison};
+ghost use Rattle.newick.specs.ReadCalls.{reading};
+ghost use Rattle.newick.specs.RowText.{writing};
+ghost use Rattle.newick.specs.RowText.Wanted.{plain, with-words};
+ghost use Rattle.writer.specs.Writings.{writtenVerdict};
 ghost use Rattle.arb.specs.Packing.{packed};
 use compare::Comparison;
 use judge::Answer;
+use writer::Written;
 
 // How many numbers, places and counts a packed answer can distinguish.
 const NUMBERS: u64 = 256;
@@ -56,6 +61,23 @@ fn pack_comparison(a: Comparison) -> u64
     match a {
         Comparison::Counted(both, first, second) => pack_counts(both, first, second),
         Comparison::Refused(number, place) => pack_refusal(number, place),
+    }
+}
+
+// A length as one number: it stands where a refusal has its place.
+fn pack_length(length: usize) -> u64
+    ensures { λ r. ⌜ r ≡ packed (wrote length) ⌝ }
+{
+    NUMBERS * (length as u64 % PLACES)
+}
+
+// An answer of writing as one number.
+fn pack_written(a: Written) -> u64
+    ensures { λ r. ⌜ r ≡ packed (writtenVerdict a) ⌝ }
+{
+    match a {
+        Written::Length(length) => pack_length(length),
+        Written::Refused(number, place) => pack_refusal(number, place),
     }
 }
 
@@ -124,4 +146,36 @@ pub extern "C" fn arb_compare(n: usize, first: &[u16], second: &[u16]) -> u64
     ensures { λ r. ⌜ r ≡ packed (comparing n (now (first .entry)) (now (second .entry))) ⌝ }
 {
     pack_comparison(crate::compare(n, first, second))
+}
+
+// Reading a Newick text.
+#[no_mangle]
+pub extern "C" fn arb_read_newick(n: usize, text: &[u8], out: &mut [u16]) -> u64
+    ensures answer { λ r. ⌜ r ≡ packed (reading n (now (text .entry)) (now (out .entry)) .verdict) ⌝ }
+    ensures words { λ _. ⌜ now (out .exit) ≡ reading n (now (text .entry)) (now (out .entry)) .words ⌝ }
+{
+    pack(crate::read_newick(n, text, out))
+}
+
+// Writing a row as a Newick text.
+#[no_mangle]
+pub extern "C" fn arb_write_newick(n: usize, row: &[u16], text: &mut [u8]) -> u64
+    ensures answer { λ r. ⌜ r ≡ packed (writing n (now (row .entry)) plain (now (text .entry)) .verdict) ⌝ }
+    ensures bytes { λ _. ⌜ now (text .exit) ≡ writing n (now (row .entry)) plain (now (text .entry)) .words ⌝ }
+{
+    pack_written(crate::write_newick(n, row, text))
+}
+
+// The same with supports.
+#[no_mangle]
+pub extern "C" fn arb_write_newick_supports(
+    n: usize,
+    row: &[u16],
+    support: &[u16],
+    text: &mut [u8],
+) -> u64
+    ensures answer { λ r. ⌜ r ≡ packed (writing n (now (row .entry)) (with-words (now (support .entry))) (now (text .entry)) .verdict) ⌝ }
+    ensures bytes { λ _. ⌜ now (text .exit) ≡ writing n (now (row .entry)) (with-words (now (support .entry))) (now (text .entry)) .words ⌝ }
+{
+    pack_written(crate::write_newick_supports(n, row, support, text))
 }

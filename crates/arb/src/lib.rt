@@ -8,8 +8,13 @@ ghost use Rattle.runs.specs.Calls.{opened, added, withdrawn};
 ghost use Rattle.runs.specs.Reports.{reported};
 ghost use Rattle.judge.specs.Verdicts.{verdict};
 ghost use Rattle.compare.specs.Comparisons.{comparison};
+ghost use Rattle.newick.specs.ReadCalls.{reading};
+ghost use Rattle.newick.specs.RowText.{writing};
+ghost use Rattle.newick.specs.RowText.Wanted.{plain, with-words};
+ghost use Rattle.writer.specs.Writings.{writtenVerdict};
 use compare::Comparison;
 use judge::Answer;
+use writer::Written;
 
 // Opening (RULES 6.8): an empty study over n samples, in words of any content; or a refusal that leaves them as they were.
 pub fn open(n: usize, words: &mut [u16]) -> Answer
@@ -65,4 +70,34 @@ pub fn compare(n: usize, first: &[u16], second: &[u16]) -> Comparison
     ensures { λ r. ⌜ comparison r ≡ comparing n (now (first .entry)) (now (second .entry)) ⌝ }
 {
     compare::compare(n, first, second)
+}
+
+// Reading a Newick text (RULES 14.9): the row in standard numbering that has its groups, written to `out`; or a refusal that leaves `out` as it was.
+pub fn read_newick(n: usize, text: &[u8], out: &mut [u16]) -> Answer
+    ensures answer { λ r. ⌜ verdict r ≡ reading n (now (text .entry)) (now (out .entry)) .verdict ⌝ }
+    ensures words { λ _. ⌜ now (out .exit) ≡ reading n (now (text .entry)) (now (out .entry)) .words ⌝ }
+{
+    reader::read_newick(n, text, out)
+}
+
+// Writing a row as a Newick text (RULES 14.12), without supports: the text's length, and the text at the front of `text`; or a refusal that leaves
+// `text` as it was.
+pub fn write_newick(n: usize, row: &[u16], text: &mut [u8]) -> Written
+    ensures answer { λ r. ⌜ writtenVerdict r ≡ writing n (now (row .entry)) plain (now (text .entry)) .verdict ⌝ }
+    ensures bytes { λ _. ⌜ now (text .exit) ≡ writing n (now (row .entry)) plain (now (text .entry)) .words ⌝ }
+{
+    writer::write_newick(n, row, text)
+}
+
+// The same with the words of a support row behind the closing brackets of inner nodes (RULES 14.11).
+pub fn write_newick_supports(
+    n: usize,
+    row: &[u16],
+    support: &[u16],
+    text: &mut [u8],
+) -> Written
+    ensures answer { λ r. ⌜ writtenVerdict r ≡ writing n (now (row .entry)) (with-words (now (support .entry))) (now (text .entry)) .verdict ⌝ }
+    ensures bytes { λ _. ⌜ now (text .exit) ≡ writing n (now (row .entry)) (with-words (now (support .entry))) (now (text .entry)) .words ⌝ }
+{
+    writer::write_newick_supports(n, row, support, text)
 }

@@ -14,7 +14,7 @@ use Rattle.trees.specs.Checks.{rowWords, outside}
 use Rattle.trees.specs.BoolLaws.{or-none}
 use Rattle.trees.specs.CheckLaws.{outside-not, not-outside}
 use Rattle.trees.specs.ListLaws.{length-tabulate, getD-tabulate}
-use Rattle.file.specs.Ascii.{ascii}
+use Rattle.ascii.specs.Ascii.{ascii}
 use Rattle.file.specs.Files.{wordAt, fileSamples, fileRuns, fileVersion, headBytes, mostBytes, fileBytes, begins, badFile, fileOf, slotRow}
 use Rattle.file.specs.declared.File.the-variants.{Bad, Good}
 

@@ -6,7 +6,7 @@ use lib.Dec.{eqb}
 use lib.ListN.{length, getD}
 use Rattle.trees.specs.Lists.{tabulate}
 use Rattle.trees.specs.Checks.{rowWords, outside}
-use Rattle.file.specs.Ascii.{ascii}
+use Rattle.ascii.specs.Ascii.{ascii}
 use Rattle.file.specs.declared.File.{File}
 use Rattle.file.specs.declared.File.the-variants.{Bad, Good}
 

@@ -1,4 +1,3 @@
-pub mod Ascii
 pub mod Files
 pub mod FileLaws
 pub mod Specimen

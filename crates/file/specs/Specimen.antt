@@ -8,7 +8,7 @@ use Rattle.trees.specs.Lists.{tabulate, zeros}
 use Rattle.trees.specs.Case.{row1, row2, row3}
 use Rattle.trees.specs.ListLaws.{length-zeros}
 use Rattle.file.specs.declared.File.the-variants.{Good}
-use Rattle.file.specs.Ascii.{ascii}
+use Rattle.ascii.specs.Ascii.{ascii}
 use Rattle.file.specs.Files.{wordAt, fileBytes, begins, badFile, fileOf, slotIdentifier, slotRow}
 use Rattle.file.specs.FileLaws.{sound-not-bad}
 

@@ -49,6 +49,10 @@ impl Refusal {
     pub const EMPTY: usize = 14;
 
     pub const THRESHOLD: usize = 16;
+
+    pub const FORM: usize = 17;
+
+    pub const SAMPLE: usize = 18;
 }
 
 // How few samples there can be, and how many (RULES 1.1).

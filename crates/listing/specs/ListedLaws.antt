@@ -10,7 +10,7 @@ use lib.Dec.{eqb}
 use lib.ListN.{length}
 use borrow.Author.Tests.{eqb-true, eq-eqb, ne-eqb}
 use Rattle.trees.specs.Lists.{nowhere, at, tabulate, zeros}
-use Rattle.trees.specs.Checks.{Verdict, accepted, refused, counted, Check, orElse, _⊳_, rowWords, outside}
+use Rattle.trees.specs.Checks.{Verdict, accepted, refused, counted, wrote, Check, orElse, _⊳_, rowWords, outside}
 use Rattle.trees.specs.Valid.{isAccepted}
 use Rattle.trees.specs.Reporting.{agreed, supports}
 use Rattle.trees.specs.Thresholds.{leastThreshold, mostThreshold, threshold}
@@ -76,6 +76,7 @@ first-none [] s next e = refl
 first-none (accepted ∷ vs) s next e = first-none vs (suc s) next e
 first-none (refused a b ∷ vs) s next e = absurd (true≢false (sym e))
 first-none (counted a b c ∷ vs) s next e = absurd (true≢false (sym e))
+first-none (wrote k ∷ vs) s next e = absurd (true≢false (sym e))
 
 -- of m calls from s on, the one after i accepted ones is refused
 first-some : (call : ℕ → Call) (next : Listed) (r p m i s : ℕ) (w : List ℕ) → i < m → every isAccepted (answers w (tabulate i call s)) ≡ true

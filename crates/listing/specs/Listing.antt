@@ -2,7 +2,7 @@
 use Prim.Native.Nat.{ℕ, suc}
 use mathlib.Core.List.{List, [], _∷_, flatten}
 use Rattle.trees.specs.Lists.{tabulate, zeros}
-use Rattle.trees.specs.Checks.{Verdict, accepted, refused, counted, rowWords}
+use Rattle.trees.specs.Checks.{Verdict, accepted, refused, counted, wrote, rowWords}
 use Rattle.runs.specs.Calls.{opened}
 use Rattle.runs.specs.Histories.{Call, add, answers, after}
 use Rattle.runs.specs.Reports.{reported}
@@ -25,6 +25,7 @@ abbrev pub unless : Verdict → ℕ → Listed → Listed
 unless accepted slot next = next
 unless (refused number place) slot next = refusal number slot place
 unless (counted a b c) slot next = next
+unless (wrote k) slot next = next
 
 -- the first of the slots' calls that is refused, from a slot on (RULES 9.7)
 unfoldable pub firstRefused : List Verdict → ℕ → Listed → Listed

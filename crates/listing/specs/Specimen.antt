@@ -20,11 +20,11 @@ use Rattle.trees.specs.BoolLaws.{and-l, and-r}
 use Rattle.trees.specs.ChainLaws.{Passed, chain-passed}
 use Rattle.runs.specs.Runs.{every, insertRun}
 use Rattle.runs.specs.Reports.{ruleOf}
-use Rattle.file.specs.Ascii.{ascii}
+use Rattle.ascii.specs.Ascii.{ascii}
 use Rattle.file.specs.Files.{badFile, begins, wordAt, fileBytes, fileSamples, fileRuns, slotIdentifier, slotRow}
 use Rattle.file.specs.FileLaws.{Sound, good-file}
 use Rattle.file.specs.Specimen.{bytesOf, input, specimen-file}
-use Rattle.text.specs.Decimal.{digits, decimal}
+use Rattle.ascii.specs.Decimal.{digits, decimal}
 use Rattle.text.specs.Lines.{spaced, lineOf, refusalLine}
 use Rattle.text.specs.Specimen.{specimen-listing}
 use Rattle.listing.specs.Listing.{Listed, tree, linesOf, listed, listing}

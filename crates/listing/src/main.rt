@@ -6,7 +6,7 @@ mod told;
 ghost use mathlib.Core.Path.{_≡_};
 ghost use Prim.Native.Nat.{_<_, _≤_};
 ghost use lib.ListN.{length};
-ghost use Rattle.text.specs.Writing.{lineBytes};
+ghost use Rattle.text.specs.Room.{lineBytes};
 ghost use Rattle.listing.specs.Listing.{studyWords, linesOf};
 ghost use Rattle.listing.specs.Told.{shows, Printable};
 use told::STUDY_WORDS;

@@ -6,6 +6,8 @@ use Rattle.judge.specs.declared.Answer.{Answer}
 use Rattle.judge.specs.declared.Answer.the-variants.{Accepted, Refused}
 use Rattle.compare.specs.declared.Comparison.{Comparison}
 use Rattle.compare.specs.declared.Comparison.the-variants as comparison
+use Rattle.writer.specs.declared.calls.Written.{Written}
+use Rattle.writer.specs.declared.calls.Written.the-variants as written
 use Rattle.replay.specs.declared.calls.Head.{Head}
 use Rattle.replay.specs.declared.calls.Reply.{Reply}
 
@@ -26,6 +28,11 @@ replyTo (Refused number place) = plainReply number place
 abbrev pub replyCounts : Comparison → Reply
 replyCounts (comparison.Counted c1 c2 c3) = record { number = 0; place = 0; c1 = c1; c2 = c2; c3 = c3 }
 replyCounts (comparison.Refused number place) = plainReply number place
+
+-- the reply that a writing makes: the length of the text as its first count, or a refusal's number and place
+abbrev pub replyLength : Written → Reply
+replyLength (written.Length c1) = record { number = 0; place = 0; c1 = c1; c2 = 0; c3 = 0 }
+replyLength (written.Refused number place) = plainReply number place
 
 -- a reply's six words: the number, the place's low word and high word, the counts
 abbrev pub replyWords : Reply → List ℕ

@@ -7,13 +7,22 @@
 //     5 judge      x = n           a the row
 //     6 renumber   x = n           a the row, b the new row
 //     7 compare    x = n           a the first row, b the second
+//     8 read       x = n           a the text, b the row
+//     9 write      x = n, y = 1    a the row, b the support, c the text; without supports y = 0
+//
+// A text stands in words, one byte in each; a word that is no byte is as an unknown op.
 //
 // A call that is added has a line above, a number below, an arm in `called` and a function of its own.
+use crate::texts::narrow;
+use crate::texts::widen;
 use compare::Comparison;
 use judge::Answer;
 use judge::wide;
+use writer::Written;
 ghost use mathlib.Core.Path.{_≡_};
-ghost use Rattle.replay.specs.Calls.{headOf, plainReply, replyTo, replyCounts, replyWords};
+ghost use lib.ListN.{length};
+ghost use Rattle.replay.specs.Words.{Short, Roomy};
+ghost use Rattle.replay.specs.Calls.{headOf, plainReply, replyTo, replyCounts, replyLength, replyWords};
 
 const OP_OPEN: u16 = 1;
 
@@ -28,6 +37,13 @@ const OP_JUDGE: u16 = 5;
 const OP_RENUMBER: u16 = 6;
 
 const OP_COMPARE: u16 = 7;
+
+const OP_READ: u16 = 8;
+
+const OP_WRITE: u16 = 9;
+
+// What y says where supports are wanted.
+const SUPPORTS: u16 = 1;
 
 // How many values a word has.
 const WORD: usize = 65536;
@@ -57,8 +73,10 @@ pub enum Outcome {
     Unknown,
 }
 
-// What comes of the call that the head asks for. It leaves in the buffers what the call leaves.
-pub fn called(head: Head, a: &mut [u16], b: &mut [u16], c: &mut [u16]) -> Outcome {
+// What comes of the call that the head asks for. It leaves in the buffers what the call leaves; `bytes` is room for a text.
+pub fn called(head: Head, a: &mut [u16], b: &mut [u16], c: &mut [u16], bytes: &mut [u8]) -> Outcome
+    requires { ⌜ Short (now a) × Short (now c) × Roomy (now bytes) ⌝ }
+{
     let op = head.op;
     match op {
         OP_OPEN => Outcome::Told(opened(head, a)),
@@ -68,6 +86,8 @@ pub fn called(head: Head, a: &mut [u16], b: &mut [u16], c: &mut [u16]) -> Outcom
         OP_JUDGE => Outcome::Told(judged(head, a)),
         OP_RENUMBER => Outcome::Told(renumbered(head, a, b)),
         OP_COMPARE => Outcome::Told(compared(head, a, b)),
+        OP_READ => read(head, a, b, bytes),
+        OP_WRITE => written(head, a, b, c, bytes),
         _ => Outcome::Unknown,
     }
 }
@@ -105,6 +125,70 @@ fn renumbered(head: Head, a: &[u16], b: &mut [u16]) -> Reply {
 // The reply to comparing the rows a and b.
 fn compared(head: Head, a: &[u16], b: &[u16]) -> Reply {
     reply_counts(arb::compare(wide(head.x), a, b))
+}
+
+// What comes of reading the text a in b.
+fn read(head: Head, a: &[u16], b: &mut [u16], bytes: &mut [u8]) -> Outcome
+    requires { ⌜ Short (now a) × Roomy (now bytes) ⌝ }
+{
+    let n = a.len();
+    read_text(head, a, b, &mut bytes[..n])
+}
+
+// The same, with just so many bytes as the text has.
+fn read_text(head: Head, a: &[u16], b: &mut [u16], text: &mut [u8]) -> Outcome
+    requires { ⌜ length (now text) ≡ length (now a) ⌝ }
+{
+    if !narrow(a, text) {
+        return Outcome::Unknown;
+    }
+    Outcome::Told(reply_to(arb::read_newick(wide(head.x), text, b)))
+}
+
+// What comes of writing the row a, with the support b if it is wanted, in the text c.
+fn written(head: Head, a: &[u16], b: &[u16], c: &mut [u16], bytes: &mut [u8]) -> Outcome
+    requires { ⌜ Short (now c) × Roomy (now bytes) ⌝ }
+{
+    let n = c.len();
+    written_text(head, a, b, c, &mut bytes[..n])
+}
+
+// The same, with just so many bytes as the text has.
+fn written_text(head: Head, a: &[u16], b: &[u16], c: &mut [u16], text: &mut [u8]) -> Outcome
+    requires { ⌜ length (now text) ≡ length (now c) ⌝ }
+{
+    if !narrow(c, text) {
+        return Outcome::Unknown;
+    }
+    let written = put_row(head, a, b, text);
+    widen(text, c);
+    Outcome::Told(reply_length(written))
+}
+
+// What writing the row a answers, with the support b or without.
+fn put_row(head: Head, a: &[u16], b: &[u16], text: &mut [u8]) -> Written
+    ensures { λ _. ⌜ length (now (text .exit)) ≡ length (now (text .entry)) ⌝ }
+{
+    if head.y == SUPPORTS {
+        return arb::write_newick_supports(wide(head.x), a, b, text);
+    }
+    arb::write_newick(wide(head.x), a, text)
+}
+
+// The reply that a writing makes.
+fn reply_length(written: Written) -> Reply
+    ensures { λ r. ⌜ r ≡ replyLength written ⌝ }
+{
+    match written {
+        Written::Length(c1) => Reply {
+            number: 0,
+            place: 0,
+            c1,
+            c2: 0,
+            c3: 0,
+        },
+        Written::Refused(number, place) => plain_reply(number, place),
+    }
 }
 
 // The reply that a comparison makes.

@@ -3,11 +3,12 @@
 // the buffers in the order in which the call takes them. A reply is six words
 // `number place-low place-high c1 c2 c3` and then the buffers as they stand after the call.
 //
-// It stops at the end of input, at a request that is cut off, at a buffer of more than 32,768 words
-// and at an op that it does not know. `calls` knows the ops, `words` the bytes of words; here and in
-// `moves` bytes are only moved.
+// It stops at the end of input, at a request that is cut off, at a buffer of more than 32,768 words,
+// at an op that it does not know and at a text that has a word that is no byte. `calls` knows the ops,
+// `texts` the bytes of texts, `words` the bytes of words; here and in `moves` bytes are only moved.
 mod calls;
 mod moves;
+mod texts;
 mod words;
 
 use calls::Head;
@@ -74,7 +75,14 @@ fn answer_call(head: Head, a: &mut [u16], b: &mut [u16], c: &mut [u16], bytes: &
     if !read_buffers(a, b, c, bytes) {
         return false;
     }
-    let Outcome::Told(reply) = calls::called(head, a, b, c) else {
+    make_call(head, a, b, c, bytes)
+}
+
+// Makes the call on the buffers and writes its reply, and says whether that was done.
+fn make_call(head: Head, a: &mut [u16], b: &mut [u16], c: &mut [u16], bytes: &mut [u8]) -> bool
+    requires { ⌜ Short (now a) × Short (now b) × Short (now c) × Roomy (now bytes) ⌝ }
+{
+    let Outcome::Told(reply) = calls::called(head, a, b, c, bytes) else {
         return false;
     };
     write_reply(reply, a, b, c, bytes)

@@ -1,9 +1,6 @@
-pub mod Decimal
 pub mod Lines
-pub mod Writing
+pub mod Room
 pub mod Marks
-pub mod DecimalLaws
 pub mod LineLaws
-pub mod WritingLaws
 pub mod MarkLaws
 pub mod Specimen

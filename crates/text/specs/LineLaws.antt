@@ -10,7 +10,7 @@ use Rattle.trees.specs.Lists.{tabulate, range, filter}
 use Rattle.trees.specs.Groups.{Group, has}
 use Rattle.trees.specs.Rows.{parent, groupAt}
 use Rattle.trees.specs.ListLaws.{range-cons, range-none}
-use Rattle.text.specs.Decimal.{decimal}
+use Rattle.ascii.specs.Decimal.{decimal}
 use Rattle.text.specs.Lines.{space, lineFeed, spaced, lineOf, parentField, samplesOf, nodeLine}
 
 pub spaced-append : (fs gs : List (List ℕ)) → spaced (fs ++ gs) ≡ spaced fs ++ spaced gs

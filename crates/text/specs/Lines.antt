@@ -7,8 +7,8 @@ use lib.ListN.{getD}
 use Rattle.trees.specs.Lists.{tabulate, range, filter}
 use Rattle.trees.specs.Groups.{Group, has}
 use Rattle.trees.specs.Rows.{nodes, parent, rootMark, groupAt}
-use Rattle.file.specs.Ascii.{ascii}
-use Rattle.text.specs.Decimal.{decimal}
+use Rattle.ascii.specs.Ascii.{ascii}
+use Rattle.ascii.specs.Decimal.{decimal}
 
 -- what stands between fields, and what ends a line (RULES 9.6)
 abbrev pub space : ℕ

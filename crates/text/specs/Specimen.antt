@@ -4,8 +4,8 @@ use mathlib.Core.List.{flatten}
 use Rattle.trees.specs.Lists.{tabulate, filter}
 use Rattle.trees.specs.Rows.{nodes, parent, meets, groupAt}
 use Rattle.trees.specs.Case.{agreedRow, supportRow}
-use Rattle.file.specs.Ascii.{ascii}
-use Rattle.text.specs.Decimal.{digits, decimal}
+use Rattle.ascii.specs.Ascii.{ascii}
+use Rattle.ascii.specs.Decimal.{digits, decimal}
 use Rattle.text.specs.Lines.{spaced, lineOf, headLine, parentField, samplesOf, nodeLine, refusalLine, treeLines}
 
 -- the listing, byte for byte (RULES 10)

@@ -2,12 +2,13 @@
 ghost use mathlib.Core.List.{map};
 ghost use Prim.Native.Nat.{_+_, _*_, _<_, _≤_};
 ghost use lib.ListN.{length};
-ghost use Rattle.text.specs.Decimal.{decimal};
+ghost use Rattle.ascii.specs.Decimal.{decimal};
 ghost use Rattle.text.specs.Lines.{lineOf, headLine, refusalLine};
-ghost use Rattle.text.specs.Writing.{Written, fieldBytes, lineBytes};
-use crate::put::put_byte;
-use crate::put::put_bytes;
-use crate::put::put_fields;
+ghost use Rattle.put.specs.Writing.{Written};
+ghost use Rattle.text.specs.Room.{fieldBytes, lineBytes};
+use put::put_byte;
+use put::put_bytes;
+use crate::fields::put_fields;
 use file::VERSION;
 
 // A buffer of this many bytes holds any line.

@@ -8,7 +8,7 @@ use native.Mathlib.Omega.{arith}
 use lib.Dec.{eqb}
 use borrow.Author.Tests.{eqb-false, not-true}
 use Rattle.trees.specs.Lists.{Place, nowhere, at, range}
-use Rattle.trees.specs.Checks.{Verdict, accepted, refused, counted, Check, line, lineAt, orElse, _⊳_, asked}
+use Rattle.trees.specs.Checks.{Verdict, accepted, refused, counted, wrote, Check, line, lineAt, orElse, _⊳_, asked}
 use Rattle.trees.specs.BoolLaws.{and-l, and-r}
 use Rattle.trees.specs.ListLaws.{Lowest, first-lowest, lowest-first}
 
@@ -68,6 +68,9 @@ accepted-other k p e = let z : _≡_ {A = ℕ} 0 1 = cc in omega arith
 
 pub counted-other : (a b c : ℕ) → Unrefused (counted a b c)
 counted-other a b c k p e = let z : _≡_ {A = ℕ} 0 1 = cc in omega arith
+
+pub wrote-other : (a : ℕ) → Unrefused (wrote a)
+wrote-other a k p e = let z : _≡_ {A = ℕ} 0 1 = cc in omega arith
 
 -- checks that do not refuse pass
 pub unrefused-passed : (cs : List Check) (v : Verdict) → Unrefused (cs ⊳ v) → Passed cs

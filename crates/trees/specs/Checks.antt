@@ -7,11 +7,12 @@ use lib.ListN.{length, getD}
 use Rattle.trees.specs.Lists.{Place, nowhere, at, range, first, count}
 use Rattle.trees.specs.Rows.{nodes, parent, rootMark, childOf, ends}
 
--- An answer: acceptance, the number and the place of a refusal, or the counts of comparing (RULES 7.1).
+-- An answer: acceptance, the number and the place of a refusal, the counts of comparing, or the length of a text that is written (RULES 7.1).
 pub data Verdict : Type 0 where
   accepted : Verdict
   refused : ℕ → ℕ → Verdict
   counted : ℕ → ℕ → ℕ → Verdict
+  wrote : ℕ → Verdict
 
 -- A check: its number, and the place at which it applies, if it does (RULES 7.5).
 pub record Check : Type 0 where

@@ -11,7 +11,7 @@ use borrow.Author.Tests.{eqb-true, eq-eqb, not-false}
 use Rattle.trees.specs.Lists.{Place, nowhere, at}
 use Rattle.trees.specs.Groups.{Group, member}
 use Rattle.trees.specs.Rows.{groups, holds}
-use Rattle.trees.specs.Checks.{Verdict, accepted, refused, counted, Check, orElse, _⊳_, rowWords}
+use Rattle.trees.specs.Checks.{Verdict, accepted, refused, counted, wrote, Check, orElse, _⊳_, rowWords}
 use Rattle.trees.specs.Checks.{check3, rowChecks, judgeChecks}
 use Rattle.trees.specs.Valid.{Valid, Standard}
 use Rattle.trees.specs.Numbering.{groupSet, renumbered}
@@ -193,6 +193,7 @@ abbrev pub movedVerdict : ℕ → Verdict → Verdict
 movedVerdict d accepted = accepted
 movedVerdict d (refused k p) = refused k (p + d)
 movedVerdict d (counted a b c) = counted a b c
+movedVerdict d (wrote k) = wrote k
 
 -- the second row's checks answer as those of a row alone, with the places moved
 pub chain-moved : (d : ℕ) (cs : List Check) → map (moved d) cs ⊳ accepted ≡ movedVerdict d (cs ⊳ accepted)

@@ -8,7 +8,7 @@ use lib.ListN.{length, getD}
 use Rattle.trees.specs.Lists.{range, count}
 use Rattle.trees.specs.Groups.{Group, before, member}
 use Rattle.trees.specs.Rows.{nodes, parent, rootMark, childOf, ends, inner}
-use Rattle.trees.specs.Checks.{Verdict, accepted, refused, counted, fewestSamples, mostSamples, rowWords, children, judged}
+use Rattle.trees.specs.Checks.{Verdict, accepted, refused, counted, wrote, fewestSamples, mostSamples, rowWords, children, judged}
 
 -- A row to which none of checks 1, 3 and 5 to 10 applies (RULES 7.5); judging accepts these and no others (`judged-valid`, `valid-judged`).
 pub record Valid (n : ℕ) (r : List ℕ) : Type 0 where
@@ -43,6 +43,7 @@ abbrev pub isAccepted : Verdict → Bool
 isAccepted accepted = true
 isAccepted (refused k p) = false
 isAccepted (counted a b c) = false
+isAccepted (wrote k) = false
 
 -- each group before the next (RULES 4.1)
 unfoldable pub inOrder : List Group → Bool

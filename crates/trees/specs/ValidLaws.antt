@@ -11,7 +11,7 @@ use lib.Seq.{ext-getD}
 use borrow.Author.Tests.{eqb-true, ltb-true, ltb-false, eq-eqb, le-ltb, le-leb, not-true, not-false}
 use Rattle.trees.specs.Lists.{nowhere, at, tabulate, weigh, range, count}
 use Rattle.trees.specs.Rows.{nodes, parent, rootMark, childOf, ends}
-use Rattle.trees.specs.Checks.{Verdict, accepted, refused, counted, fewestSamples, mostSamples, rowWords, outside, isInner}
+use Rattle.trees.specs.Checks.{Verdict, accepted, refused, counted, wrote, fewestSamples, mostSamples, rowWords, outside, isInner}
 use Rattle.trees.specs.Checks.{stray, children, check1, check3, check5, check6, check7, check8, check9, check10, rowChecks, judgeChecks, judged, _⊳_}
 use Rattle.trees.specs.Valid.{Valid, isAccepted}
 use Rattle.trees.specs.BoolLaws.{and-both, or-r, not-yes, decide}
@@ -24,6 +24,7 @@ pub accepted-to : (v : Verdict) → isAccepted v ≡ true → v ≡ accepted
 accepted-to accepted e = refl
 accepted-to (refused k p) e = absurd (false≢true e)
 accepted-to (counted a b c) e = absurd (false≢true e)
+accepted-to (wrote k) e = absurd (false≢true e)
 
 -- ---- acceptance is validity
 

@@ -1,7 +1,7 @@
 -- `listing::print_line` is safe and ends: a line lies within its buffer. Assumes nothing.
 use native.Mathlib.Omega.{arith}
 use lib.ListN.{length-take}
-use Rattle.text.specs.WritingLaws.{written-within}
+use Rattle.put.specs.WritingLaws.{written-within}
 use borrow.Author.Needs.{needs}
 use Rattle.listing.proofs.print_line.Statement.{statement}
 use Rattle.listing.proofs.print_line.Tie as tie

@@ -1,6 +1,6 @@
 -- `text::lines::put_line` writes a text, fields and a line feed. Assumes nothing.
 use Rattle.text.specs.Lines.{lineOf}
-use Rattle.text.specs.WritingLaws.{put-then, put-written}
+use Rattle.put.specs.WritingLaws.{put-then, put-written}
 use borrow.Author.Needs.{needs}
 use Rattle.text.proofs.lines.put_line.Statement.{statement}
 use Rattle.text.proofs.lines.put_line.Tie as tie

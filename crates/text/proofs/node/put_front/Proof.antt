@@ -3,10 +3,10 @@ use Prim.Native.Nat.{_≤_}
 use mathlib.Core.List.{append-nil}
 use native.Mathlib.Omega.{arith}
 use lib.ListN.{length}
-use Rattle.text.specs.Decimal.{decimal}
-use Rattle.text.specs.DecimalLaws.{decimal-short}
+use Rattle.ascii.specs.Decimal.{decimal}
+use Rattle.ascii.specs.DecimalLaws.{decimal-short}
 use Rattle.text.specs.Lines.{spaced}
-use Rattle.text.specs.WritingLaws.{put-then}
+use Rattle.put.specs.WritingLaws.{put-then}
 use borrow.Author.Needs.{needs}
 use Rattle.text.proofs.node.put_front.Statement.{statement}
 use Rattle.text.proofs.node.put_front.Tie as tie

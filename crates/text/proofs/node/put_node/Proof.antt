@@ -1,7 +1,7 @@
 -- `text::node::put_node` writes the front of the line, the samples of the node and a line feed. Assumes nothing.
 use native.Mathlib.Omega.{arith}
 use Rattle.text.specs.LineLaws.{node-line}
-use Rattle.text.specs.WritingLaws.{put-then, put-written}
+use Rattle.put.specs.WritingLaws.{put-then, put-written}
 use borrow.Author.Needs.{needs}
 use Rattle.text.proofs.node.put_node.Statement.{statement}
 use Rattle.text.proofs.node.put_node.Tie as tie

@@ -2,7 +2,7 @@
 use native.Mathlib.Omega.{arith}
 use borrow.Author.Tests.{eq-eqb, ne-eqb}
 use Rattle.trees.specs.Rows.{rootMark}
-use Rattle.text.specs.DecimalLaws.{decimal-short}
+use Rattle.ascii.specs.DecimalLaws.{decimal-short}
 use Rattle.text.specs.Lines.{parentField}
 use borrow.Author.Needs.{needs}
 use Rattle.text.proofs.node.put_parent.Statement.{statement}

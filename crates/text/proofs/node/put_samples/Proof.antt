@@ -3,9 +3,9 @@ use Prim.Native.Nat.{_-_}
 use native.Mathlib.Omega.{arith}
 use borrow.Author.Tests.{not-true, not-false}
 use Rattle.trees.specs.Rows.{parent}
-use Rattle.text.specs.DecimalLaws.{decimal-long}
+use Rattle.ascii.specs.DecimalLaws.{decimal-long}
 use Rattle.text.specs.Marks.{parentMarked}
-use Rattle.text.specs.Writing.{sampleBytes}
+use Rattle.text.specs.Room.{sampleBytes}
 use Rattle.text.proofs.Laws.{FieldsLeft, fieldsFrom, passing-skip, passing-put, passing-end}
 use borrow.Author.Needs.{needs}
 use Rattle.text.proofs.node.put_samples.Statement.{statement}

@@ -1,0 +1,1 @@
+// Theory alone: texts in ASCII, and numbers in decimal, are in specs/.

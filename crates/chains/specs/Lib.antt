@@ -1,0 +1,4 @@
+pub mod Kids
+pub mod Hanging
+pub mod KidsLaws
+pub mod HangingLaws

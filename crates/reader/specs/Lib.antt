@@ -1,0 +1,4 @@
+pub mod Steps
+pub mod StepLaws
+pub mod Results
+pub mod ResultLaws

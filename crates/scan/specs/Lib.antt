@@ -1,0 +1,4 @@
+pub mod Scanning
+pub mod RunLaws
+pub mod StateLaws
+pub mod ScanningLaws

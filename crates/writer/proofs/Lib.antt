@@ -1,0 +1,4 @@
+pub mod MarkLaws
+pub mod PuttingLaws
+pub mod RowLaws
+pub mod AnswerLaws
