@@ -52,7 +52,7 @@ impl Refusal {
 
     pub const FORM: usize = 17;
 
-    pub const SAMPLE: usize = 18;
+    pub const LEAVES: usize = 18;
 }
 
 // How few samples there can be, and how many (RULES 1.1).

@@ -9,10 +9,12 @@ use Rattle.trees.specs.Tables.{tableWords}
 use Rattle.newick.specs.Tree.{Forest, hold}
 use Rattle.newick.specs.Tree.Tree.{leaf, pair}
 use Rattle.newick.specs.Tree.Held.{nothing, some}
+use Rattle.newick.specs.Grammar.{sampleBound}
+use Rattle.newick.specs.Bytes.{commaByte}
 use Rattle.scan.specs.declared.Progress.{Progress}
 use Rattle.scan.specs.declared.Progress.the-variants.{Reached, Stopped}
 use Rattle.scan.specs.declared.numbers.Number.{Number}
-use Rattle.scan.specs.Scanning.{sampleBound, commaByte, Lone, Opens, Stuck}
+use Rattle.scan.specs.Scanning.{Lone, Opens, Stuck}
 use Rattle.scan.specs.RunLaws.{look-within}
 use Rattle.lay.specs.LayLaws.{grow-few, next-grown}
 use Rattle.lay.specs.Keeping.{keptIn, Lent, Whole, LaidTo, Laid, Takes, Parts, Closed, After, Paired}

@@ -11,10 +11,12 @@ use lib.Seq.{set-out}
 use borrow.Author.Tests.{lt-ltb, le-ltb, eq-eqb, ne-eqb}
 use Rattle.trees.specs.Checks.{mostSamples}
 use Rattle.trees.specs.Tables.{tableWords}
+use Rattle.newick.specs.Grammar.{sampleBound}
+use Rattle.newick.specs.Bytes.{closingByte}
 use Rattle.scan.specs.declared.Progress.{Progress}
 use Rattle.scan.specs.declared.Progress.the-variants.{Reached, Stopped}
 use Rattle.scan.specs.declared.numbers.Number.{Number}
-use Rattle.scan.specs.Scanning.{sampleBound, closeByte, Closes}
+use Rattle.scan.specs.Scanning.{Closes}
 use Rattle.lay.specs.Laying.{nodeOf, nextOf, onceMore, lower}
 use Rattle.lay.specs.Keeping.{keptWords, keptIn, Takes, Parts, Shuts, Closed}
 
@@ -124,7 +126,7 @@ shuts-pair a v kept row row′ e z = kept-all
       small = omega arith;
     })
 
-pub closed-by : (l : List ℕ) (a e v : ℕ) (kept row : List ℕ) (p : Progress) (kept′ row′ : List ℕ) → getD l e 0 ≡ closeByte
+pub closed-by : (l : List ℕ) (a e v : ℕ) (kept row : List ℕ) (p : Progress) (kept′ row′ : List ℕ) → getD l e 0 ≡ closingByte
     → Closes l (e + 1) p → Shuts a v kept row kept′ row′ → Closed l a e v kept row p kept′ row′
 closed-by l a e v kept row (Reached f) kept′ row′ b c s = record { bracket = b; marked = c; shuts = s }
 closed-by l a e v kept row (Stopped q) kept′ row′ b c s = inr (b, c)

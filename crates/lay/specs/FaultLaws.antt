@@ -10,17 +10,18 @@ use native.Mathlib.Omega.{arith}
 use lib.Dec.{eqb, ltb, leb}
 use lib.ListN.{length, getD, set, length-set}
 use lib.Seq.{getD-set-same, getD-set-other}
-use borrow.Author.Tests.{ltb-true, ltb-false, le-ltb, leb-true, leb-false, le-leb, eqb-true, eqb-false, eq-eqb, ne-eqb, not-false}
-use Rattle.trees.specs.Lists.{nowhere, at, range, zeros, first, weigh}
+use borrow.Author.Tests.{ltb-true, ltb-false, le-ltb, leb-true, leb-false, le-leb, eqb-true, eqb-false, eq-eqb, ne-eqb}
+use Rattle.trees.specs.Lists.{nowhere, range, zeros, first, weigh}
 use Rattle.trees.specs.BoolLaws.{decide}
-use Rattle.trees.specs.ListLaws.{Lowest, Scan, scan, found, missed, lowest-first, nowhere-first, first-nowhere, length-zeros, getD-zeros}
+use Rattle.trees.specs.ListLaws.{Lowest, Scan, scan, found, missed, lowest-first, nowhere-first, length-zeros, getD-zeros}
 use Rattle.trees.specs.Numbering.{renumbered}
 use Rattle.trees.specs.Checks.{mostSamples}
 use Rattle.newick.specs.Tree.{Tree}
 use Rattle.newick.specs.Meaning.{samples, times, among, amiss, above, lonely}
 use Rattle.newick.specs.ReadCalls.{check18, checkLone, rowIn}
+use Rattle.newick.specs.FaultLaws.{above-more, stands-exactly}
 use Rattle.newick.specs.RoundTrip.{row-in}
-use Rattle.scan.specs.Scanning.{sampleBound}
+use Rattle.newick.specs.Grammar.{sampleBound}
 use Rattle.lay.specs.Laying.{onceMore, tally, lower, least, grow, laidRow}
 use Rattle.lay.specs.Faults.{orAt, belowPlace, due, badMark}
 use Rattle.lay.specs.LaidRow.{laid-groups}
@@ -94,15 +95,6 @@ tally-many (y ∷ xs) marks x h = tally-many xs (set marks y (onceMore (getD mar
         ∙ ap (λ (k : ℕ). many k (getD marks x 0)) (let z : times x xs ≡ cond (eqb x y) 1 0 + times x xs = rw e (omega arith) in z)
 
 -- ---- 18
-
-above-more : (xs : List ℕ) (x : ℕ) → 1 ≤ times x xs → x < above xs
-unfolding above weigh
-above-more [] x h = absurd (omega arith)
-above-more (y ∷ xs) x h = go (decide (eqb x y)) (λ k. above-more xs x k)
-  where
-    go : (eqb x y ≡ true) ⊎ (eqb x y ≡ false) → (1 ≤ times x xs → x < above xs) → x < max (suc y) (above xs)
-    go (inl e) f = omega (arith, eqb-true x y e, le-max-left (suc y) (above xs))
-    go (inr e) f = omega (arith, f (omega (arith, rw e at h)), le-max-right (suc y) (above xs))
 
 due-most : (n x : ℕ) → due n x ≤ 1
 due-most n x = go (ltb x n)
@@ -200,22 +192,5 @@ placeLone k t = go (decide (ltb (least 0 (lonely t) k) k)) (least-finds 0 (lonel
 
 -- ---- where 18 passes, each sample stands once, and what was laid is the row of the tree
 
-pub passed-once : (n : ℕ) (t : Tree) → check18 n t .fault ≡ nowhere → (x : ℕ) → times x (samples t) ≡ cond (ltb x n) 1 0
-passed-once n t e x = go (decide (ltb x (max n (above (samples t)))))
-  where
-    go : (ltb x (max n (above (samples t))) ≡ true) ⊎ (ltb x (max n (above (samples t))) ≡ false) → times x (samples t) ≡ cond (ltb x n) 1 0
-    go (inl d) = eqb-true (times x (samples t)) (cond (ltb x n) 1 0)
-        (not-false (eqb (times x (samples t)) (cond (ltb x n) 1 0))
-        (first-nowhere (amiss n (samples t)) 0 (max n (above (samples t))) e x zero-le (ltb-true x (max n (above (samples t))) d)))
-    go (inr d) = let i = ltb-false x (max n (above (samples t))) d in
-        rw (le-ltb x n (omega (arith, i, le-max-left n (above (samples t)))))
-        (⊎-elim (λ w. absurd (omega (
-          arith,
-          above-more (samples t) x (leb-true 1 (times x (samples t)) w),
-          i,
-          le-max-right n (above (samples t)),
-        ))) (λ w. omega (arith, leb-false 1 (times x (samples t)) w))
-        (decide (leb 1 (times x (samples t)))))
-
 pub laid-row-in : (n : ℕ) (t : Tree) → 2 ≤ n → n ≤ 512 → check18 n t .fault ≡ nowhere → renumbered n (laidRow n (grow t n)) ≡ rowIn n t
-laid-row-in n t h k e = sym (row-in n (laidRow n (grow t n)) t (λ g. sym (laid-groups n t h k (passed-once n t e) g)))
+laid-row-in n t h k e = sym (row-in n (laidRow n (grow t n)) t (λ g. sym (laid-groups n t h k (stands-exactly n t .0 e) g)))

@@ -6,7 +6,7 @@ use lib.Dec.{eqb, ltb}
 use lib.ListN.{getD}
 use Rattle.trees.specs.Lists.{Place, nowhere, at, range, first}
 use Rattle.trees.specs.Checks.{Check, mostSamples}
-use Rattle.scan.specs.Scanning.{sampleBound}
+use Rattle.newick.specs.Grammar.{sampleBound}
 
 -- the first place, or else another
 abbrev pub orAt : Place → Place → Place

@@ -10,24 +10,25 @@ use Rattle.newick.specs.Tree.Tree.{pair}
 use Rattle.newick.specs.Tree.Forest.{only, more}
 use Rattle.newick.specs.Tree.Stack.{opened, later}
 use Rattle.newick.specs.ByteLaws.{kind-all}
-use Rattle.newick.specs.Bytes.{kindOf}
+use Rattle.newick.specs.Bytes.{closingByte, commaByte, kindOf}
 use Rattle.newick.specs.Walk.{final, step, shut, next, last}
 use Rattle.newick.specs.Walk.State.{want, closed, measured}
 use Rattle.newick.specs.Walk.Move.{stuck}
 use Rattle.newick.specs.Walk.Parse.{stops}
+use Rattle.newick.specs.Grammar.{mostOpen}
 use Rattle.scan.specs.declared.Progress.the-variants.{Stopped}
-use Rattle.scan.specs.Scanning.{mostNested, closeByte, commaByte, from, Fresh, Marked, Closes, Stuck}
+use Rattle.scan.specs.Scanning.{from, Fresh, Marked, Closes, Stuck}
 use Rattle.scan.specs.RunLaws.{look-within, from-to, from-stops}
 use Rattle.scan.specs.StateLaws.{clash}
 use Rattle.lay.specs.Keeping.{Whole, Inside}
 
-pub inside-shut : (l : List ℕ) (e a : ℕ) (k : Stack) (h : Held) (t : Tree) → getD l e 0 ≡ closeByte
+pub inside-shut : (l : List ℕ) (e a : ℕ) (k : Stack) (h : Held) (t : Tree) → getD l e 0 ≡ closingByte
     → from l e (measured (frame k a h) t) ≡ from l (e + 1) (closed k a (hold h t))
 unfolding step kindOf shut
 inside-shut l e a k nothing t b =
-    from-to l e (measured (opened k a) t) (closed k a (only t)) (look-within l e closeByte b (omega arith)) (rw b)
+    from-to l e (measured (opened k a) t) (closed k a (only t)) (look-within l e closingByte b (omega arith)) (rw b)
 inside-shut l e a k (some f) t b =
-    from-to l e (measured (later k a f) t) (closed k a (more f t)) (look-within l e closeByte b (omega arith)) (rw b)
+    from-to l e (measured (later k a f) t) (closed k a (more f t)) (look-within l e closingByte b (omega arith)) (rw b)
 
 pub inside-next : (l : List ℕ) (e a : ℕ) (k : Stack) (h : Held) (t : Tree) → getD l e 0 ≡ commaByte
     → from l e (measured (frame k a h) t) ≡ from l (e + 1) (want (frame k a (some (hold h t))))
@@ -42,7 +43,7 @@ unfolding last
 last-inside k a nothing t = refl
 last-inside k a (some f) t = refl
 
-inside-stops : (l : List ℕ) (e a : ℕ) (k : Stack) (h : Held) (t : Tree) → Fresh l e → (getD l e 0 ≡ closeByte → ⊥)
+inside-stops : (l : List ℕ) (e a : ℕ) (k : Stack) (h : Held) (t : Tree) → Fresh l e → (getD l e 0 ≡ closingByte → ⊥)
     → (getD l e 0 ≡ commaByte → ⊥) → from l e (measured (frame k a h) t) ≡ stops e
 unfolding step final
 inside-stops l e a k h t n f g =
@@ -53,13 +54,13 @@ inside-stops l e a k h t n f g =
     refl
 
 -- a bracket fewer may be opened inside
-down : (k : Stack) (a d : ℕ) (h : Held) → 0 < d → depth k + d ≡ mostNested → depth (frame k a h) + (d - 1) ≡ mostNested
+down : (k : Stack) (a d : ℕ) (h : Held) → 0 < d → depth k + d ≡ mostOpen → depth (frame k a h) + (d - 1) ≡ mostOpen
 unfolding depth
 down k a d nothing w e = omega arith
 down k a d (some f) w e = omega arith
 
 module _ (l : List ℕ) (p d a j e : ℕ) (h : 0 < d) (s : Inside l p d a j) (w : Whole l j (d - 1) e) where
-  pub inside-sub : (k : Stack) → depth k + d ≡ mostNested → from l p (want k) ≡ from l e (measured (frame k a (s .held)) (w .tree))
+  pub inside-sub : (k : Stack) → depth k + d ≡ mostOpen → from l p (want k) ≡ from l e (measured (frame k a (s .held)) (w .tree))
   inside-sub k u = s .goes k u ∙ w .goes (frame k a (s .held)) (down k a d (s .held) h u)
 
   unfoldable pub inside-again : getD l e 0 ≡ commaByte → Inside l p d a (e + 1)
@@ -70,7 +71,7 @@ module _ (l : List ℕ) (p d a j e : ℕ) (h : 0 < d) (s : Inside l p d a j) (w 
     goes = λ k u. inside-sub k u ∙ inside-next l e a k (s .held) (w .tree) b;
   }
 
-  unfoldable pub inside-closes : (f : ℕ) → getD l e 0 ≡ closeByte → (c : Marked l (e + 1) f) → Whole l p d f
+  unfoldable pub inside-closes : (f : ℕ) → getD l e 0 ≡ closingByte → (c : Marked l (e + 1) f) → Whole l p d f
   inside-closes f b c = record {
     later = omega (arith, s .after, w .later, c .later);
     within = c .within;
@@ -79,10 +80,10 @@ module _ (l : List ℕ) (p d a j e : ℕ) (h : 0 < d) (s : Inside l p d a j) (w 
     goes = λ k u. inside-sub k u ∙ inside-shut l e a k (s .held) (w .tree) b ∙ c .goes k a (hold (s .held) (w .tree));
   }
 
-  pub inside-unclosed : (q : ℕ) → getD l e 0 ≡ closeByte → Closes l (e + 1) (Stopped q) → Stuck l p d q
+  pub inside-unclosed : (q : ℕ) → getD l e 0 ≡ closingByte → Closes l (e + 1) (Stopped q) → Stuck l p d q
   inside-unclosed q b c = λ k u. inside-sub k u ∙ inside-shut l e a k (s .held) (w .tree) b ∙ c k a (hold (s .held) (w .tree))
 
-  pub inside-ends : (getD l e 0 ≡ closeByte → ⊥) → (getD l e 0 ≡ commaByte → ⊥) → Stuck l p d e
+  pub inside-ends : (getD l e 0 ≡ closingByte → ⊥) → (getD l e 0 ≡ commaByte → ⊥) → Stuck l p d e
   inside-ends f g = λ k u. inside-sub k u ∙ inside-stops l e a k (s .held) (w .tree) (w .fresh) f g
 
 pub inside-stuck : (l : List ℕ) (p d a j q : ℕ) → 0 < d → Inside l p d a j → Stuck l j (d - 1) q → Stuck l p d q

@@ -13,10 +13,12 @@ use Rattle.newick.specs.Tree.{Tree, Forest, Stack, depth, Held, frame}
 use Rattle.newick.specs.Tree.Held.{nothing, some}
 use Rattle.newick.specs.Meaning.{samples, samplesIn, lonely, lonelyIn, times}
 use Rattle.newick.specs.Walk.State.{want, measured}
+use Rattle.newick.specs.Grammar.{mostOpen, sampleBound}
+use Rattle.newick.specs.Bytes.{closingByte}
 use Rattle.scan.specs.declared.Progress.{Progress}
 use Rattle.scan.specs.declared.Progress.the-variants.{Reached, Stopped}
 use Rattle.scan.specs.declared.numbers.Number.{Number}
-use Rattle.scan.specs.Scanning.{mostNested, sampleBound, closeByte, from, Fresh, Marked, Closes, Stuck}
+use Rattle.scan.specs.Scanning.{from, Fresh, Marked, Closes, Stuck}
 use Rattle.lay.specs.Laying.{sets, Braid, nodeOf, nextOf, partBy, grow, spread, onceMore, tally, lower, least}
 
 -- the topmost node of the last subtree, the next free number, the lowest sample too large for a mark, and the lowest
@@ -50,7 +52,7 @@ pub record Whole (l : List ℕ) (p d e : ℕ) : Type 0 where
   pub within : e ≤ length l
   pub fresh : Fresh l e
   pub tree : Tree
-  pub goes : (k : Stack) → depth k + d ≡ mostNested → from l p (want k) ≡ from l e (measured k tree)
+  pub goes : (k : Stack) → depth k + d ≡ mostOpen → from l p (want k) ≡ from l e (measured k tree)
 
 -- what a tree adds to what is kept, to a row and to marks
 pub record Lays (t : Tree) (c : Kept) (row marks : List ℕ) (g : Kept) (row′ marks′ : List ℕ) : Type 0 where
@@ -111,7 +113,7 @@ pub record Shuts (a v : ℕ) (kept row kept′ row′ : List ℕ) : Type 0 where
 
 -- a closing bracket at e, with what follows it up to f
 pub record ClosedTo (l : List ℕ) (a e v : ℕ) (kept row : List ℕ) (f : ℕ) (kept′ row′ : List ℕ) : Type 0 where
-  pub bracket : getD l e 0 ≡ closeByte
+  pub bracket : getD l e 0 ≡ closingByte
   pub marked : Marked l (e + 1) f
   pub shuts : Shuts a v kept row kept′ row′
 
@@ -119,7 +121,7 @@ pub record ClosedTo (l : List ℕ) (a e v : ℕ) (kept row : List ℕ) (f : ℕ)
 abbrev pub Closed : List ℕ → ℕ → ℕ → ℕ → List ℕ → List ℕ → Progress → List ℕ → List ℕ → Type 0
 Closed l a e v kept row (Reached f) kept′ row′ = ClosedTo l a e v kept row f kept′ row′
 Closed l a e v kept row (Stopped q) kept′ row′ =
-    ((q ≡ e) × (getD l e 0 ≡ closeByte → ⊥)) ⊎ ((getD l e 0 ≡ closeByte) × Closes l (e + 1) (Stopped q))
+    ((q ≡ e) × (getD l e 0 ≡ closingByte → ⊥)) ⊎ ((getD l e 0 ≡ closingByte) × Closes l (e + 1) (Stopped q))
 
 -- ---- in a pair
 
@@ -128,7 +130,7 @@ pub record Inside (l : List ℕ) (p d a j : ℕ) : Type 0 where
   pub after : p < j
   pub within : j ≤ length l
   pub held : Held
-  pub goes : (k : Stack) → depth k + d ≡ mostNested → from l p (want k) ≡ from l j (want (frame k a held))
+  pub goes : (k : Stack) → depth k + d ≡ mostOpen → from l p (want k) ≡ from l j (want (frame k a held))
 
 -- what the subtrees before a comma have laid, their samples, and their pairs with one subtree
 abbrev pub spreadHeld : Held → ℕ → Braid

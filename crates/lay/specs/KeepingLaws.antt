@@ -21,7 +21,7 @@ use Rattle.newick.specs.Tree.Held.{nothing, some}
 use Rattle.newick.specs.Meaning.{samples, samplesIn, lone, lonely, lonelyIn, times}
 use Rattle.scan.specs.declared.Progress.{Progress}
 use Rattle.scan.specs.declared.numbers.Number.{Number}
-use Rattle.scan.specs.Scanning.{sampleBound}
+use Rattle.newick.specs.Grammar.{sampleBound}
 use Rattle.lay.specs.Laying.{Link, link, sets, Braid, nodeOf, thenBy, grow, spread, tally, lower, least}
 use Rattle.lay.specs.LayLaws.{spread-few}
 use Rattle.lay.specs.LaidRow.{length-links}

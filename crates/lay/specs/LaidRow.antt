@@ -22,7 +22,8 @@ use Rattle.trees.specs.RowLaws.{in-groups}
 use Rattle.newick.specs.Tree.{Tree}
 use Rattle.newick.specs.Meaning.{samples, times, groupsOf}
 use Rattle.newick.specs.RowText.{gather}
-use Rattle.newick.specs.ListedLaws.{count-unique, length-filter, count-same, count-gather}
+use Rattle.newick.specs.ListedLaws.{count-unique, length-filter, count-gather}
+use Rattle.trees.specs.ListLaws.{count-same}
 use Rattle.lay.specs.Laying.{Link, sets, Strand, grow, laidRow}
 use Rattle.lay.specs.LayLaws.{is, keyed, under, Fine, grow-few, grow-fine}
 use Rattle.lay.specs.LaidLaws.{is-self, nodeIn, Reach, Sat, grow-reach, grow-tells, grow-top}

@@ -1,69 +1,57 @@
--- What an accepted reading writes: a standard row with exactly the groups of the text's samples and pairs; a refusal leaves `out`. Assumes
--- nothing.
-use Prim.Native.Nat.{ℕ, _≤_}
-use mathlib.Core.Path.{_≡_, refl, sym, ap, subst, _∙_}
-use native.Mathlib.Omega.{arith}
-use Rattle.trees.specs.Lists.{nowhere}
-use Rattle.trees.specs.Numbering.{renumbered}
+-- What an accepted reading writes: a standard row with exactly the groups of the text's samples and pairs. Assumes nothing.
+use Prim.Native.Nat.{ℕ}
+use mathlib.Core.Path.{_≡_, sym, ap, subst, _∙_}
 use mathlib.Core.List.{List}
 use lib.ListN.{length}
 use Rattle.trees.specs.Groups.{Group, member}
 use Rattle.trees.specs.Rows.{groups}
-use Rattle.trees.specs.Checks.{accepted, refused, outside}
-use Rattle.trees.specs.Valid.{Standard}
-use Rattle.trees.specs.ChainLaws.{chain-passed, line-passes}
-use Rattle.trees.specs.CheckLaws.{outside-not}
-use Rattle.trees.specs.OutcomeLaws.{outcome-refused, outcome-accepted}
+use Rattle.trees.specs.Checks.{accepted}
+use Rattle.trees.specs.Valid.{Valid, Standard}
+use Rattle.trees.specs.Numbering.{renumbered}
+use Rattle.trees.specs.OutcomeLaws.{outcome-accepted}
 use Rattle.trees.specs.NumberingLaws.{renumbered-standard, renumbered-groups}
+use Rattle.newick.specs.Tree.{Tree}
 use Rattle.newick.specs.Grammar.{Text}
 use Rattle.newick.specs.Walk.{Parse, parsed}
-use Rattle.newick.specs.Walk.Parse.{reads, stops}
-use Rattle.newick.specs.Sound.{sound}
 use Rattle.newick.specs.Meaning.{groupsOf}
-use Rattle.newick.specs.ReadCalls.{stopPlace, treeIn, check18, textChecks, readChecks, rowIn, reading}
+use Rattle.newick.specs.Faults.{Sized, Readable}
+use Rattle.newick.specs.ReadCalls.{treeIn, readChecks, rowIn, reading}
+use Rattle.newick.specs.Complete.{complete}
+use Rattle.newick.specs.RoundTrip.{row-in}
+use Rattle.newick.specs.ReadCallLaws.{reading-accepts}
 use Rattle.lay.specs.Laying.{grow, laidRow}
 use Rattle.lay.specs.LaidRow.{laid-valid, laid-groups}
-use Rattle.lay.specs.FaultLaws.{passed-once, laid-row-in}
 
-module _ (n : ℕ) (l out : List ℕ) where
-  pub reading-refused : (k p : ℕ) → reading n l out .verdict ≡ refused k p → reading n l out .words ≡ out
+module _ (n : ℕ) (l out : List ℕ) (e : reading n l out .verdict ≡ accepted) (t : Tree) (s : Text l t) where
+  -- the row that is laid for the text
+  abbrev laid : List ℕ
+  laid = laidRow n (grow t n)
+
+  sized : Sized n out
+  sized = reading-accepts n l out .0 e .0
+
+  -- the tree that was read is the text's
+  readable : Readable n t
+  readable = let h = reading-accepts n l out .0 e .1 in
+      subst (Readable n) (one-tree (h .0) (h .1)) (h .2)
+    where
+      one-tree : (u : Tree) → Text l u → u ≡ t
+      one-tree u q = sym (ap treeIn (complete q)) ∙ ap treeIn (complete s)
+
+  valid : Valid n laid
+  valid = laid-valid n t (sized .least) (sized .most) (readable .once)
+
+  written-words : reading n l out .words ≡ renumbered n laid
   unfolding reading
-  reading-refused k p e = outcome-refused (readChecks n (parsed l) (length l) out) out (rowIn n (treeIn (parsed l))) k p e
+  written-words = outcome-accepted (readChecks n (parsed l) (length l) out) out (rowIn n (treeIn (parsed l))) e
+      ∙ ap (λ (o : Parse). rowIn n (treeIn o)) (complete s)
+      ∙ row-in n laid t (λ g. sym (laid-groups n t (sized .least) (sized .most) (readable .once) g))
 
-  module _ (e : reading n l out .verdict ≡ accepted) where
-    -- an accepted text is of the form, and comes to its tree
-    pub reading-text : Text l (treeIn (parsed l))
-    unfolding reading readChecks textChecks
-    reading-text = sound l (treeIn (parsed l)) (go (parsed l) (chain-passed (readChecks n (parsed l) (length l) out) e .1 .1 .0))
-      where
-        go : (o : Parse) → stopPlace o ≡ nowhere → o ≡ reads (treeIn o)
-        go (reads t) q = refl
-        go (stops p) q = absurd (let z : _≡_ {A = ℕ} 0 1 = cc in omega arith)
+  -- the row is in standard numbering (RULES 14.9)
+  pub reading-standard : Standard n (reading n l out .words)
+  reading-standard = subst (Standard n) (sym written-words) (renumbered-standard n laid valid)
 
-    passed18 : check18 n (treeIn (parsed l)) .fault ≡ nowhere
-    unfolding reading readChecks textChecks
-    passed18 = chain-passed (readChecks n (parsed l) (length l) out) e .1 .1 .1 .0
-
-    size-in : (2 ≤ n) × (n ≤ 512)
-    unfolding reading readChecks
-    size-in = outside-not 2 512 n (line-passes 1 (outside 2 512 n) (chain-passed (readChecks n (parsed l) (length l) out) e .0))
-
-    written-words : reading n l out .words ≡ renumbered n (laidRow n (grow (treeIn (parsed l)) n))
-    unfolding reading
-    written-words = outcome-accepted (readChecks n (parsed l) (length l) out) out (rowIn n (treeIn (parsed l))) e
-        ∙ sym (laid-row-in n (treeIn (parsed l)) (size-in .0) (size-in .1) passed18)
-
-    -- "writes a standard row"
-    pub reading-standard : Standard n (reading n l out .words)
-    reading-standard = subst (Standard n) (sym written-words)
-        (renumbered-standard n (laidRow n (grow (treeIn (parsed l)) n))
-        (laid-valid n (treeIn (parsed l)) (size-in .0) (size-in .1) (passed-once n (treeIn (parsed l)) passed18)))
-
-    -- "the row has exactly the groups of the text's pairs and samples"
-    pub reading-groups : (x : Group) → member x (groups n (reading n l out .words)) ≡ member x (groupsOf n (treeIn (parsed l)))
-    reading-groups x =
-        let once = passed-once n (treeIn (parsed l)) passed18 in
-        ap (λ (w : List ℕ). member x (groups n w)) written-words
-        ∙ renumbered-groups n (laidRow n (grow (treeIn (parsed l)) n))
-        (laid-valid n (treeIn (parsed l)) (size-in .0) (size-in .1) once) x
-        ∙ laid-groups n (treeIn (parsed l)) (size-in .0) (size-in .1) once x
+  -- it has exactly the groups of the text's samples and pairs (RULES 14.9)
+  pub reading-groups : (x : Group) → member x (groups n (reading n l out .words)) ≡ member x (groupsOf n t)
+  reading-groups x = ap (λ (w : List ℕ). member x (groups n w)) written-words ∙ renumbered-groups n laid valid x
+      ∙ laid-groups n t (sized .least) (sized .most) (readable .once) x

@@ -6,7 +6,7 @@ ghost use lib.Dec.{ltb};
 ghost use lib.ListN.{length};
 ghost use Rattle.trees.specs.Checks.{mostSamples};
 ghost use Rattle.trees.specs.Tables.{tableWords};
-ghost use Rattle.scan.specs.Scanning.{sampleBound};
+ghost use Rattle.newick.specs.Grammar.{sampleBound};
 ghost use Rattle.lay.specs.Laying.{nodeOf, nextOf, lower};
 ghost use Rattle.lay.specs.Keeping.{keptWords, keptIn, Takes, Parts, Shuts};
 use crate::tables::MARKS;

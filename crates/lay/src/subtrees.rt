@@ -3,7 +3,7 @@ ghost use mathlib.Core.Path.{_≡_};
 ghost use Prim.Native.Nat.{_<_, _≤_};
 ghost use lib.ListN.{length};
 ghost use Rattle.trees.specs.Tables.{tableWords};
-ghost use Rattle.scan.specs.Scanning.{sampleBound};
+ghost use Rattle.newick.specs.Grammar.{sampleBound};
 ghost use Rattle.lay.specs.Keeping.{keptWords, keptIn, Lent, Closed, Laid};
 use crate::keep::Kept;
 use crate::keep::comma;

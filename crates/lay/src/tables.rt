@@ -4,7 +4,7 @@ ghost use Prim.Native.Nat.{_+_, _<_, _≤_};
 ghost use lib.ListN.{length, getD, set};
 ghost use Rattle.trees.specs.Checks.{mostSamples};
 ghost use Rattle.trees.specs.Tables.{tableWords};
-ghost use Rattle.scan.specs.Scanning.{sampleBound};
+ghost use Rattle.newick.specs.Grammar.{sampleBound};
 ghost use Rattle.lay.specs.Laying.{onceMore};
 use judge::MOST_SAMPLES;
 

@@ -1,12 +1,12 @@
 -- The children of a node stand in its text by rising smallest sample, each once; and behind the last bracket of a text no support stands.
 -- Assumes nothing.
-use Prim.Native.Nat.{ℕ, zero, suc, _+_, _-_, _≤_, _<_}
-use mathlib.Core.Path.{_≡_, refl, sym, ap, subst, _∙_}
+use Prim.Native.Nat.{ℕ, zero, suc, _+_, _-_, _<_}
+use mathlib.Core.Path.{_≡_, refl, sym, subst, _∙_}
 use mathlib.Core.Logic.{⊎-elim}
 use mathlib.Core.List.{List, [], _∷_, _++_, append-assoc, List·Memᴰ, List·Memᴰ·head, List·Memᴰ·tail, List·Memᴰ·append-cases, List·Memᴰ·not-nil}
-use mathlib.Core.Bool.{Bool, true, false, _&&_, cond}
+use mathlib.Core.Bool.{Bool, _&&_}
 use native.Mathlib.Omega.{arith}
-use lib.Dec.{eqb, ltb}
+use lib.Dec.{eqb}
 use lib.ListN.{length}
 use borrow.Author.Tests.{eqb-true, eq-eqb, le-ltb}
 use Rattle.trees.specs.Lists.{range, filter, count}
@@ -17,7 +17,7 @@ use Rattle.trees.specs.BoolLaws.{and-l, and-r, and-both}
 use Rattle.trees.specs.ListLaws.{in-range, range-cons, range-none}
 use Rattle.newick.specs.Bytes.{openingByte, closingByte, semicolonByte}
 use Rattle.newick.specs.RowText.{Wanted, gather, nodesAt, byLowest, childrenOf, RisesBy, listed, markText, nodeText, rootOf, written}
-use Rattle.newick.specs.ListedLaws.{count-unique, count-filter, length-filter, in-filter}
+use Rattle.newick.specs.ListedLaws.{count-unique, count-filtered, length-filter, in-filter}
 use Rattle.newick.specs.FilterLaws.{filter-append, one-long, in-gather}
 use Rattle.newick.specs.ChildLaws.{lowest-differ, root-at}
 
@@ -53,7 +53,7 @@ module _ (n : ℕ) (r : List ℕ) (ok : Valid n r) (v : ℕ) (h : v < nodes r) w
         (λ c i k t. lowest-differ n r ok v x c h (b .0) k (b .2) (eqb-true (parent r c) v (and-r (eqb (key c) s) (childOf r v c) t))
         (b .1 ∙ sym (eqb-true (key c) s (and-l (eqb (key c) s) (childOf r v c) t)))) in
       let l : length (filter (childOf r v) (nodesAt n r s)) ≡ 1 =
-        length-filter (childOf r v) (nodesAt n r s) ∙ count-filter (λ u. eqb (key u) s) (childOf r v) (range 0 (nodes r)) ∙ one in
+        length-filter (childOf r v) (nodesAt n r s) ∙ count-filtered (λ u. eqb (key u) s) (childOf r v) (range 0 (nodes r)) ∙ one in
       subst (RisesBy key) (sym (one-long x _ l m) ∙ e) (λ y k. absurd (List·Memᴰ·not-nil k), tt)
 
   from-rises : (k s : ℕ) → s + k ≡ n → RisesBy key (filter (childOf r v) (gather (nodesAt n r) (range s n)))

@@ -1,8 +1,8 @@
 -- Laws of the kinds of bytes. Assumes nothing.
-use Prim.Native.Nat.{ℕ, zero, suc, _-_, _≤_, _<_}
+use Prim.Native.Nat.{ℕ, zero, suc, _-_, _≤_}
 use native.Mathlib.Omega.{arith}
 use mathlib.Core.Path.{_≡_, refl}
-use mathlib.Core.Bool.{Bool, true, false, _&&_}
+use mathlib.Core.Bool.{Bool, true, false}
 use lib.Dec.{eqb, leb}
 use borrow.Author.Tests.{eqb-true, leb-true, ne-eqb}
 use Rattle.trees.specs.BoolLaws.{and-l, and-r}
@@ -10,7 +10,7 @@ use Rattle.newick.specs.Tree.{Stack}
 use Rattle.newick.specs.Bytes.{Kind, kindOf, either, isBlank, isDigit}
 use Rattle.newick.specs.Bytes.Kind.{blank, left, right, comma, semicolon, colon, dot, other, digit}
 use Rattle.newick.specs.Grammar.{mostDigits}
-use Rattle.newick.specs.Walk.{State, begun}
+use Rattle.newick.specs.Walk.{begun}
 use Rattle.newick.specs.Walk.State.{sample}
 
 -- what is true of each kind of byte, where its test holds, is true of the byte's kind

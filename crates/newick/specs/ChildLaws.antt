@@ -1,26 +1,24 @@
 -- Of the nodes of a valid row: each sample below a node is below one child of it, two children of a node differ in their smallest samples, fewer
 -- inner nodes are below a child than below its parent, and all are below the root. Assumes nothing.
-use Prim.Native.Nat.{ℕ, zero, suc, _+_, _-_, _*_, _≤_, _<_, zero-le}
-use mathlib.Core.Path.{_≡_, refl, sym, ap, subst, _∙_}
+use Prim.Native.Nat.{ℕ, suc, _-_, _≤_, _<_, zero-le}
+use mathlib.Core.Path.{_≡_, sym, subst, _∙_}
 use mathlib.Core.Logic.{_⊎_, inl, inr, ⊎-elim}
-use mathlib.Core.List.{List, [], _∷_, _++_, List·Memᴰ}
-use mathlib.Core.Bool.{Bool, true, false, _&&_, not, cond, false≢true}
+use mathlib.Core.List.{List, []}
+use mathlib.Core.Bool.{true, false, _&&_, cond, false≢true}
 use native.Mathlib.Omega.{arith}
-use lib.Dec.{eqb, ltb, leb}
-use lib.ListN.{length}
-use borrow.Author.Tests.{ltb-true, ltb-false, leb-true, leb-false, eqb-true, eqb-false, eq-eqb, ne-eqb, lt-ltb, le-ltb, not-true}
-use Rattle.trees.specs.Lists.{range, filter, weigh, count, Place, nowhere, at, first}
+use lib.Dec.{eqb, ltb}
+use borrow.Author.Tests.{ltb-true, ltb-false, eqb-true, eqb-false, eq-eqb}
+use Rattle.trees.specs.Lists.{range, count, at, first}
 use Rattle.trees.specs.Groups.{lowest}
 use Rattle.trees.specs.Rows.{nodes, parent, rootMark, childOf, meets, groupAt}
-use Rattle.trees.specs.Checks.{children}
 use Rattle.trees.specs.Valid.{Valid}
-use Rattle.trees.specs.BoolLaws.{and-l, and-r, and-both, true-eq, not-yes, decide}
-use Rattle.trees.specs.ListLaws.{in-range, range-in, length-range, weigh-none, weigh-one, weigh-found, weigh-mono, count-tight, count-le-length, Scan, scan, found, missed}
+use Rattle.trees.specs.BoolLaws.{and-l, and-r, and-both, not-yes, decide}
+use Rattle.trees.specs.ListLaws.{in-range, range-in, length-range, weigh-none, weigh-one, count-tight, count-le-length, Scan, scan, found, missed}
 use Rattle.trees.specs.GroupLaws.{lowest-has}
 use Rattle.trees.specs.WayLaws.{meets-refl, meets-past, meets-line, no-loop}
-use Rattle.trees.specs.RowLaws.{Above, group-has, no-mark, child-above, below-child, step-down, top-of, valid-rooted, group-full, one-root}
-use Rattle.newick.specs.RowText.{gather, nodesAt, byLowest, childrenOf, placeOr0, rootOf}
-use Rattle.newick.specs.ListedLaws.{count-same, count-unique, count-filter, length-filter, filter-in, in-filter, count-gather}
+use Rattle.trees.specs.RowLaws.{Above, group-has, no-mark, below-child, step-down, top-of, valid-rooted, group-full, one-root}
+use Rattle.newick.specs.RowText.{rootOf}
+use Rattle.newick.specs.ListedLaws.{count-unique}
 
 module _ (n : ℕ) (r : List ℕ) (ok : Valid n r) where
   -- ---- below a node

@@ -1,25 +1,22 @@
 -- The children of a node as its text has them: each once, none beside. Assumes nothing.
-use Prim.Native.Nat.{ℕ, zero, suc, _+_, _-_, _*_, _≤_, _<_, zero-le}
-use mathlib.Core.Path.{_≡_, refl, sym, ap, subst, _∙_}
-use mathlib.Core.Logic.{_⊎_, inl, inr, ⊎-elim}
-use mathlib.Core.List.{List, [], _∷_, _++_, List·Memᴰ}
-use mathlib.Core.Bool.{Bool, true, false, _&&_, not, cond, false≢true}
+use Prim.Native.Nat.{ℕ, _-_, _<_, zero-le}
+use mathlib.Core.Path.{_≡_, refl, subst, _∙_}
+use mathlib.Core.List.{List, [], List·Memᴰ}
+use mathlib.Core.Bool.{Bool, _&&_}
 use native.Mathlib.Omega.{arith}
-use lib.Dec.{eqb, ltb, leb}
+use lib.Dec.{eqb}
 use lib.ListN.{length}
-use borrow.Author.Tests.{ltb-true, ltb-false, leb-true, leb-false, eqb-true, eqb-false, eq-eqb, ne-eqb, lt-ltb, le-ltb, not-true}
-use Rattle.trees.specs.Lists.{range, filter, weigh, count, Place, nowhere, at, first}
+use borrow.Author.Tests.{eqb-true, eq-eqb}
+use Rattle.trees.specs.Lists.{range, count}
 use Rattle.trees.specs.Groups.{lowest}
-use Rattle.trees.specs.Rows.{nodes, parent, rootMark, childOf, meets, groupAt}
+use Rattle.trees.specs.Rows.{nodes, parent, childOf, groupAt}
 use Rattle.trees.specs.Checks.{children}
 use Rattle.trees.specs.Valid.{Valid}
-use Rattle.trees.specs.BoolLaws.{and-l, and-r, and-both, true-eq, not-yes, decide}
-use Rattle.trees.specs.ListLaws.{in-range, range-in, length-range, weigh-none, weigh-one, weigh-found, weigh-mono, count-tight, count-le-length, Scan, scan, found, missed}
+use Rattle.trees.specs.ListLaws.{in-range, range-in, weigh-one, weigh-found}
 use Rattle.trees.specs.GroupLaws.{lowest-has}
-use Rattle.trees.specs.WayLaws.{meets-refl, meets-past, meets-line, no-loop}
-use Rattle.trees.specs.RowLaws.{Above, group-has, no-mark, child-above, below-child, step-down, top-of, valid-rooted, group-full, one-root}
-use Rattle.newick.specs.RowText.{gather, nodesAt, byLowest, childrenOf, placeOr0, rootOf}
-use Rattle.newick.specs.ListedLaws.{count-same, count-unique, count-filter, length-filter, filter-in, in-filter, count-gather}
+use Rattle.trees.specs.RowLaws.{group-has, group-full}
+use Rattle.newick.specs.RowText.{byLowest, childrenOf}
+use Rattle.newick.specs.ListedLaws.{count-filtered, length-filter, filter-in, in-filter, count-gather}
 
 module _ (n : ℕ) (r : List ℕ) (ok : Valid n r) where
   lowest-below : (v : ℕ) → v < nodes r → lowest (groupAt n r v) < n
@@ -52,7 +49,7 @@ module _ (n : ℕ) (r : List ℕ) (ok : Valid n r) where
 
     pub count-child : (t : ℕ → Bool) → count t (childrenOf n r v) ≡ count (λ c. childOf r v c && t c) (range 0 (nodes r))
     unfolding childrenOf
-    count-child t = count-filter (childOf r v) t (byLowest n r) ∙ count-nodes (λ c. childOf r v c && t c)
+    count-child t = count-filtered (childOf r v) t (byLowest n r) ∙ count-nodes (λ c. childOf r v c && t c)
 
     pub length-child : length (childrenOf n r v) ≡ children r v
     unfolding childrenOf

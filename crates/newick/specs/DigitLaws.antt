@@ -1,17 +1,16 @@
 -- A decimal is a sample of the form, and a run of digits with its number. Assumes nothing.
-use Prim.Native.Nat.{ℕ, zero, suc, _+_, _-_, _*_, _/_, _%_, _^_, _≤_, _<_, zero-le}
-use mathlib.Core.Path.{_≡_, refl, sym, ap, subst, _∙_}
+use Prim.Native.Nat.{ℕ, suc, _+_, _-_, _*_, _%_, _≤_, _<_}
+use mathlib.Core.Path.{_≡_, refl, ap, subst, _∙_}
 use mathlib.Core.Logic.{_⊎_, inl, inr}
 use mathlib.Core.List.{List, [], _∷_, _++_}
-use mathlib.Core.Bool.{Bool, true, false, _&&_}
+use mathlib.Core.Bool.{Bool, true, false}
 use native.Mathlib.Omega.{arith}
-use lib.Dec.{eqb, leb, ltb}
-use lib.ListN.{length, getD}
+use lib.Dec.{eqb, leb}
+use lib.ListN.{length}
 use borrow.Author.Tests.{le-leb, eqb-true, eqb-false}
 use Rattle.trees.specs.BoolLaws.{decide, and-both}
-use Rattle.ascii.specs.Decimal.{digit, digits, decimal, valueAfter}
+use Rattle.ascii.specs.Decimal.{digit, decimal, valueAfter}
 use Rattle.ascii.specs.DecimalLaws.{by-tenths, decimal-small, decimal-step, value-decimal, decimal-full, decimal-front, decimal-long}
-use Rattle.newick.specs.Tree.{Mark}
 use Rattle.newick.specs.Tree.Mark.{marked}
 use Rattle.newick.specs.Bytes.{isDigit}
 use Rattle.newick.specs.Grammar.{All, Sample, Support}

@@ -1,28 +1,27 @@
 -- Checks 18 and 10 of reading apply at the lowest number that is amiss and at the lowest opening byte of a pair with one subtree. Assumes nothing.
-use Prim.Native.Nat.{ℕ, zero, suc, _+_, _-_, _*_, _^_, _≤_, _<_, zero-le, max}
-use mathlib.Core.Path.{_≡_, refl, sym, ap, subst, _∙_}
+use Prim.Native.Nat.{ℕ, suc, _+_, _-_, _≤_, _<_, zero-le, max}
+use mathlib.Core.Path.{_≡_, ap, _∙_}
 use mathlib.Core.Logic.{_⊎_, inl, inr, ⊎-elim, _↔_}
 use mathlib.Core.List.{List, [], _∷_, _++_}
-use mathlib.Core.Bool.{Bool, true, false, not, cond}
+use mathlib.Core.Bool.{true, false, cond}
 use native.Mathlib.Nat.{le-max-left, le-max-right}
 use native.Mathlib.Omega.{arith}
 use lib.Dec.{eqb, ltb, leb}
 use lib.ListN.{length, length-append}
-use borrow.Author.Tests.{ltb-true, ltb-false, le-ltb, lt-ltb, leb-true, leb-false, le-leb, eqb-true, eq-eqb, ne-eqb, eqb-false, not-false, not-true}
-use Rattle.trees.specs.Lists.{Place, nowhere, at, range, weigh, count}
+use borrow.Author.Tests.{ltb-true, ltb-false, le-ltb, leb-true, leb-false, le-leb, eqb-true, eq-eqb, ne-eqb, eqb-false, not-false, not-true}
+use Rattle.trees.specs.Lists.{nowhere, at, weigh}
 use Rattle.trees.specs.BoolLaws.{decide}
-use Rattle.trees.specs.ListLaws.{Lowest, first-lowest, lowest-first, first-nowhere, nowhere-first, weigh-append}
+use Rattle.trees.specs.ListLaws.{first-lowest, lowest-first, first-nowhere, nowhere-first, weigh-append}
 use Rattle.ascii.specs.Decimal.{valueAfter}
-use Rattle.newick.specs.Tree.{Mark, Tree, Forest}
-use Rattle.newick.specs.Tree.Tree.{leaf, pair}
+use Rattle.newick.specs.Tree.{Tree, Forest}
 use Rattle.newick.specs.Tree.Forest.{only, more}
 use Rattle.newick.specs.Bytes.{openingByte, closingByte, commaByte, semicolonByte, noughtByte, isDigit}
-use Rattle.newick.specs.Grammar.{All, Sample, Subtree, Subtrees, Text}
+use Rattle.newick.specs.Grammar.{All, sampleBound, Sample, Subtree, Subtrees, Text}
 use Rattle.newick.specs.Grammar.All.{none, and}
 use Rattle.newick.specs.ByteLaws.{digit-range}
 use Rattle.newick.specs.Meaning.{samples, samplesIn, times, among, amiss, above, lone, lonely, lonelyIn}
 use Rattle.newick.specs.ReadCalls.{check18, checkLone}
-use Rattle.newick.specs.Faults.{LowestWith, Stands, Single, Readable}
+use Rattle.newick.specs.Faults.{LowestWith, Stands, Single}
 
 times-append : (x : ℕ) (xs ys : List ℕ) → times x (xs ++ ys) ≡ times x xs + times x ys
 times-append x xs ys = weigh-append (λ y. 1) (eqb x) xs ys
@@ -82,10 +81,6 @@ module _ (n : ℕ) (t : Tree) where
   )
 
 -- ---- the samples of a text are below 100,000
-
--- one more than the largest sample that can be written (RULES 14.3)
-abbrev pub sampleBound : ℕ
-sampleBound = 100000
 
 value-small : (x : ℕ) → x < 10 → (l : List ℕ) → All isDigit l → length l ≤ 4 → valueAfter x l < sampleBound
 unfolding valueAfter

@@ -1,7 +1,7 @@
 -- Which texts are of the form, rule by rule (RULES 14.2 to 14.6), and the tree that each means (RULES 14.8). There is no reading in it.
-use Prim.Native.Nat.{ℕ, zero, suc, _+_, _*_, _-_, _≤_, _<_}
+use Prim.Native.Nat.{ℕ, suc, _+_, _-_, _≤_}
 use mathlib.Core.Path.{_≡_}
-use mathlib.Core.Bool.{Bool, true, false, _&&_}
+use mathlib.Core.Bool.{Bool, true}
 use mathlib.Core.List.{List, [], _∷_, _++_}
 use lib.ListN.{length}
 use Rattle.ascii.specs.Decimal.{valueAfter}
@@ -32,6 +32,10 @@ pub data Sample : List ℕ → ℕ → Type 0 where
   nought : Sample (noughtByte ∷ []) 0
   numeral : (b : ℕ) (l : List ℕ) → isDigit b ≡ true → (b ≡ noughtByte → ⊥) → All isDigit l → length l ≤ mostDigits - 1
       → Sample (b ∷ l) (valueAfter (b - noughtByte) l)
+
+-- one more than the largest sample that can be written (`samples-small`)
+abbrev pub sampleBound : ℕ
+sampleBound = 100000
 
 -- a length: digits, or digits on both sides of a point (RULES 14.4)
 pub data Number : List ℕ → Type 0 where

@@ -3,9 +3,9 @@ use Prim.Native.Nat.{ℕ, suc, max}
 use mathlib.Core.List.{List, [], _∷_, _++_}
 use mathlib.Core.Bool.{Bool, cond, not}
 use lib.Dec.{eqb, ltb, leb}
-use Rattle.trees.specs.Lists.{tabulate, range, count}
+use Rattle.trees.specs.Lists.{tabulate, count}
 use Rattle.trees.specs.Groups.{Group}
-use Rattle.newick.specs.Tree.{Mark, Tree, Forest}
+use Rattle.newick.specs.Tree.{Tree, Forest}
 use Rattle.newick.specs.Tree.Tree.{leaf, pair}
 use Rattle.newick.specs.Tree.Forest.{only, more}
 

@@ -1,6 +1,6 @@
 -- Demand 1 for reading, over the grammar: when a text is accepted, and when each refusal is given, with its place. Assumes nothing.
 use Prim.Native.Nat.{ℕ, _≤_, _<_}
-use mathlib.Core.Path.{_≡_, refl, sym, ap, subst, _∙_}
+use mathlib.Core.Path.{_≡_, refl, sym, ap, subst}
 use mathlib.Core.Logic.{⊎-elim, _↔_}
 use mathlib.Core.List.{List, [], _∷_}
 use mathlib.Core.Bool.{not}
@@ -8,16 +8,16 @@ use native.Mathlib.Omega.{arith}
 use lib.Dec.{eqb, ltb, leb}
 use lib.ListN.{length}
 use borrow.Author.Tests.{eqb-true, eq-eqb, not-false, ltb-true, ltb-false, le-ltb, leb-true, leb-false}
-use Rattle.trees.specs.Lists.{Place, nowhere, at}
-use Rattle.trees.specs.Checks.{accepted, refused, Check, _⊳_, fewestSamples, mostSamples, rowWords, outside, check1, check3}
+use Rattle.trees.specs.Lists.{nowhere, at}
+use Rattle.trees.specs.Checks.{accepted, refused, Check, fewestSamples, mostSamples, rowWords, outside, check1, check3}
 use Rattle.trees.specs.BoolLaws.{decide}
 use Rattle.trees.specs.ChainLaws.{Passed, passed-chain, chain-passed, accepted-other, Given, here, later, chain-given, given-chain}
 use Rattle.trees.specs.ChainLaws.{Exactly, refused-exactly, numbers, lacks, given-alone, line-passes}
 use Rattle.trees.specs.CheckLaws.{samples-exactly}
 use Rattle.trees.specs.PlacedLaws.{Placed, placed-none, placed-line, placed-at}
-use Rattle.trees.specs.OutcomeLaws.{outcome-refused, outcome-accepted}
+use Rattle.trees.specs.OutcomeLaws.{outcome-refused}
 use Rattle.newick.specs.Tree.{Tree}
-use Rattle.newick.specs.Grammar.{Text}
+use Rattle.newick.specs.Grammar.{sampleBound, Text}
 use Rattle.newick.specs.Walk.{Parse, parsed}
 use Rattle.newick.specs.Walk.Parse.{reads, stops}
 use Rattle.newick.specs.Stops.{FirstStop}
@@ -27,7 +27,7 @@ use Rattle.newick.specs.ReadCalls.{stopPlace, treeIn, check17, check18, 
 use Rattle.newick.specs.Complete.{complete}
 use Rattle.newick.specs.Sound.{sound}
 use Rattle.newick.specs.StopLaws.{stop-exactly}
-use Rattle.newick.specs.FaultLaws.{amiss-exactly, stands-exactly, sampleBound, samples-small, single-exactly, paired-exactly}
+use Rattle.newick.specs.FaultLaws.{amiss-exactly, stands-exactly, samples-small, single-exactly, paired-exactly}
 
 -- ---- what comes of a text
 

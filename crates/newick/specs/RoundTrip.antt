@@ -1,37 +1,33 @@
 -- Reading what was written gives the row renumbered. Assumes nothing.
-use Prim.Native.Nat.{ℕ, zero, suc, _+_, _-_, _*_, _≤_, _<_, zero-le, max}
-use mathlib.Core.Path.{_≡_, refl, sym, ap, subst, _∙_}
-use mathlib.Core.List.{List, [], _∷_, _++_}
-use mathlib.Core.Bool.{Bool, true, false, _&&_, not, cond}
+use Prim.Native.Nat.{ℕ, _-_, _≤_}
+use mathlib.Core.Path.{_≡_, refl, ap, subst, _∙_}
+use mathlib.Core.List.{List, []}
+use mathlib.Core.Bool.{Bool, cond}
 use native.Mathlib.Omega.{arith}
-use lib.Dec.{eqb, ltb}
+use lib.Dec.{ltb}
 use lib.ListN.{length}
-use borrow.Author.Tests.{lt-ltb, ltb-true, eq-eqb}
-use Rattle.trees.specs.Lists.{range, weigh, count, nowhere}
+use borrow.Author.Tests.{ltb-true}
+use Rattle.trees.specs.Lists.{weigh}
 use Rattle.trees.specs.Groups.{Group, member}
-use Rattle.trees.specs.Rows.{nodes, meets, groupAt, groups}
-use Rattle.trees.specs.Checks.{Verdict, accepted, refused, counted, Check, _⊳_, line, rowWords, judgeChecks}
-use Rattle.trees.specs.Valid.{Valid, In, isAccepted}
-use Rattle.trees.specs.Numbering.{ordered, branching, rowOf, groupSet, renumbered}
+use Rattle.trees.specs.Rows.{nodes, meets, groups}
+use Rattle.trees.specs.Checks.{accepted, Check, _⊳_, rowWords}
+use Rattle.trees.specs.Valid.{Valid, In}
+use Rattle.trees.specs.Numbering.{branching, rowOf, groupSet, renumbered}
 use Rattle.trees.specs.Outcomes.{Outcome, outcome}
-use Rattle.trees.specs.BoolLaws.{true-eq, decide, and-l}
-use Rattle.trees.specs.ListLaws.{nowhere-first}
+use Rattle.trees.specs.BoolLaws.{true-eq, and-l}
 use Rattle.trees.specs.MemberLaws.{ordered-same}
 use Rattle.trees.specs.RowLaws.{in-groups}
-use Rattle.trees.specs.ChainLaws.{Passed, passed-chain}
-use Rattle.trees.specs.ValidLaws.{valid-passed}
 use Rattle.newick.specs.Tree.{Tree}
-use Rattle.newick.specs.Grammar.{All, mostOpen, Text}
+use Rattle.newick.specs.Grammar.{mostOpen, Text}
 use Rattle.newick.specs.Grammar.All.{none}
 use Rattle.newick.specs.Walk.{Parse, parsed}
-use Rattle.newick.specs.Walk.Parse.{reads, stops}
 use Rattle.newick.specs.Complete.{complete}
-use Rattle.newick.specs.Meaning.{samples, times, among, amiss, above, groupsOf, lonely}
-use Rattle.newick.specs.ReadCalls.{treeIn, check18, checkLone, readChecks, textChecks, rowIn, reading}
+use Rattle.newick.specs.Meaning.{samples, times, groupsOf, lonely}
+use Rattle.newick.specs.ReadCalls.{treeIn, readChecks, rowIn, reading}
 use Rattle.newick.specs.RowText.{Wanted, nodeText, rootOf, written}
 use Rattle.newick.specs.ChildLaws.{pairs-few, root-at, root-above}
 use Rattle.newick.specs.ReadCallLaws.{reading-accepts}
-use Rattle.newick.specs.WrittenLaws.{Meant, shows, meant}
+use Rattle.newick.specs.WrittenLaws.{shows, meant}
 
 -- l is of the form and means a tree in which each sample below n stands once, no pair holds one subtree, and the groups are those of the row r
 pub record Tells (n : ℕ) (r l : List ℕ) : Type 0 where

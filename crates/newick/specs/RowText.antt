@@ -2,13 +2,13 @@
 use Prim.Native.Nat.{ℕ, zero, suc, _<_}
 use mathlib.Core.Path.{_≡_}
 use mathlib.Core.List.{List, [], _∷_, _++_, List·Memᴰ}
-use mathlib.Core.Bool.{Bool, cond}
+use mathlib.Core.Bool.{cond}
 use lib.Dec.{eqb, ltb}
 use lib.ListN.{length, drop, getD}
 use Rattle.trees.specs.Lists.{Place, nowhere, at, range, filter, first}
 use Rattle.trees.specs.Groups.{lowest}
 use Rattle.trees.specs.Rows.{nodes, rootMark, childOf, groupAt}
-use Rattle.trees.specs.Checks.{Verdict, accepted, wrote, Check, line, _⊳_, rowWords, check1, check3, rowChecks}
+use Rattle.trees.specs.Checks.{accepted, wrote, Check, line, _⊳_, rowWords, check1, check3, rowChecks}
 use Rattle.trees.specs.RowCalls.{check3Both}
 use Rattle.trees.specs.Valid.{isAccepted}
 use Rattle.trees.specs.Outcomes.{Outcome}

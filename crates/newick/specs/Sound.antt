@@ -1,35 +1,27 @@
 -- What is read is of the form. Assumes nothing.
 use Prim.Native.Nat.{ℕ, zero, suc, _+_, _*_, _-_, _≤_, _<_}
-use native.Mathlib.Nat.{add-zero, add-suc, suc-add, le-refl}
-use native.Mathlib.Numerals.{add-one}
 use native.Mathlib.Omega.{arith}
 use mathlib.Core.Path.{_≡_, refl, sym, ap, subst, _∙_}
-use mathlib.Core.Bool.{Bool, true, false, _&&_, _||_}
-use mathlib.Core.Logic.{⊎-elim}
+use mathlib.Core.Bool.{Bool, true, false}
 use mathlib.Core.List.{List, [], _∷_, _++_}
-use lib.ListN.{length, drop, getD, drop-of-length-le, length-drop}
-use lib.Seq.{drop-cons, drop-drop, getD-drop}
-use lib.Dec.{eqb, leb, ltb}
-use borrow.Author.Tests.{eqb-true, eqb-false, leb-true, ne-eqb, ltb-true, ltb-false, lt-ltb, le-ltb}
+use lib.ListN.{length}
+use lib.Dec.{eqb, ltb}
+use borrow.Author.Tests.{eqb-true, eqb-false, ltb-true}
 use Rattle.ascii.specs.Decimal.{valueAfter}
-use Rattle.newick.specs.Lead.{lead, oneMore}
 use Rattle.newick.specs.Tree.{Mark, Tree, Forest, Stack, depth}
 use Rattle.newick.specs.Tree.Mark.{unmarked, marked}
 use Rattle.newick.specs.Tree.Tree.{leaf, pair}
 use Rattle.newick.specs.Tree.Forest.{only, more}
 use Rattle.newick.specs.Tree.Stack.{top, opened, later}
-use Rattle.newick.specs.Bytes.{Kind, kindOf, either, isBlank, isDigit}
-use Rattle.newick.specs.Bytes.Kind.{blank, left, right, comma, semicolon, colon, dot, other, digit}
-use Rattle.newick.specs.Walk.{State, Move, Parse, parsed, walk, final, step, follow, allowed, entered, begun, longer, shut, next, last}
+use Rattle.newick.specs.Bytes.{kindOf, isBlank, isDigit}
+use Rattle.newick.specs.Walk.{State, Move, parsed, walk, final, step, follow, allowed, entered, begun, longer, shut, next, last}
 use Rattle.newick.specs.Walk.State.{want, sample, closed, support, ended, measure, whole, point, part, measured, done}
 use Rattle.newick.specs.Walk.Move.{stuck, to}
 use Rattle.newick.specs.Walk.Parse.{reads, stops}
 use mathlib.Core.List.{append-assoc, append-nil}
 use lib.ListN.{length-append}
-use Rattle.newick.specs.ByteLaws.{kind-all, kind-blank, kind-digit, begun-zero, begun-other, digit-range}
-use Rattle.newick.specs.Tree.{Held, frame, hold}
-use Rattle.newick.specs.Tree.Held.{nothing, some}
-use Rattle.newick.specs.Grammar.{All, Blanks, Digits, mostDigits, Sample, Number, Support, Length, Subtree, Subtrees, mostOpen, Text}
+use Rattle.newick.specs.ByteLaws.{kind-all, begun-zero, begun-other, digit-range}
+use Rattle.newick.specs.Grammar.{All, Blanks, Digits, Sample, Number, Support, Length, Subtree, Subtrees, mostOpen, Text}
 use Rattle.newick.specs.Grammar.All.{none, and}
 use Rattle.newick.specs.Grammar.Digits.{digits}
 use lib.Seq.{append-snoc}

@@ -5,7 +5,7 @@ use mathlib.Core.Path.{_≡_}
 use mathlib.Core.Bool.{Bool, true, false}
 use mathlib.Core.List.{List, [], _∷_}
 use lib.Dec.{ltb}
-use Rattle.newick.specs.Tree.{Mark, Tree, Forest, Stack, depth}
+use Rattle.newick.specs.Tree.{Tree, Forest, Stack, depth}
 use Rattle.newick.specs.Tree.Mark.{unmarked, marked}
 use Rattle.newick.specs.Tree.Tree.{leaf, pair}
 use Rattle.newick.specs.Tree.Forest.{only, more}

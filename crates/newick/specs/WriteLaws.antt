@@ -1,6 +1,6 @@
 -- Demand 1 for writing; an accepted writing leaves the text of a valid row in front, which is of the form and is read as the row renumbered.
 -- Assumes nothing.
-use Prim.Native.Nat.{ℕ, _≤_, _<_}
+use Prim.Native.Nat.{ℕ, _≤_}
 use mathlib.Core.Path.{_≡_, refl, sym, ap, _∙_}
 use mathlib.Core.Logic.{_↔_}
 use mathlib.Core.List.{List, [], _∷_, _++_}
@@ -11,11 +11,11 @@ use lib.ListN.{length, take, drop}
 use lib.Seq.{take-append-seam}
 use borrow.Author.Tests.{eq-eqb, ltb-false, le-ltb}
 use Rattle.trees.specs.Lists.{nowhere}
-use Rattle.trees.specs.Checks.{Verdict, accepted, refused, wrote, Check, _⊳_, fewestSamples, mostSamples, rowWords, outside}
+use Rattle.trees.specs.Checks.{Verdict, accepted, refused, wrote, Check, fewestSamples, mostSamples, rowWords, outside}
 use Rattle.trees.specs.Checks.{check3, rowChecks, judgeChecks}
 use Rattle.trees.specs.Valid.{Valid, isAccepted}
 use Rattle.trees.specs.Numbering.{renumbered}
-use Rattle.trees.specs.ChainLaws.{Passed, passed-chain, Unrefused, wrote-other, unrefused-passed, Exactly, refused-exactly, numbers}
+use Rattle.trees.specs.ChainLaws.{Passed, passed-chain, wrote-other, unrefused-passed, Exactly, refused-exactly, numbers}
 use Rattle.trees.specs.ChainLaws.{line-passes, line-pass, passed-append, passed-split, chain-given, given-chain}
 use Rattle.trees.specs.CheckLaws.{samples-exactly}
 use Rattle.trees.specs.ValidLaws.{passed-valid, valid-passed}

@@ -1,37 +1,36 @@
 -- The text of a valid row is of the form, and means a tree with the row's groups. Assumes nothing.
-use Prim.Native.Nat.{ℕ, zero, suc, _+_, _-_, _*_, _≤_, _<_, zero-le}
+use Prim.Native.Nat.{ℕ, zero, suc, _+_, _-_, _≤_, _<_}
 use mathlib.Core.Path.{_≡_, refl, sym, ap, subst, _∙_}
 use mathlib.Core.Logic.{_⊎_, inl, inr, ⊎-elim}
 use mathlib.Core.List.{List, [], _∷_, _++_, List·Memᴰ, List·Memᴰ·head, List·Memᴰ·tail, append-assoc, append-nil}
-use mathlib.Core.Bool.{Bool, true, false, _&&_, _||_, not, cond, false≢true}
+use mathlib.Core.Bool.{Bool, true, false, _&&_, _||_, cond}
 use native.Mathlib.Nat.{add-zero}
 use native.Mathlib.Omega.{arith}
 use lib.Dec.{eqb, ltb, leb}
 use lib.ListN.{length, getD}
 use lib.Seq.{append-snoc}
-use borrow.Author.Tests.{ltb-true, ltb-false, leb-true, leb-false, le-leb, lt-leb, eqb-true, eqb-false, eq-eqb, ne-eqb, lt-ltb, le-ltb, not-true}
-use Rattle.trees.specs.Lists.{tabulate, range, filter, weigh, count}
+use borrow.Author.Tests.{ltb-true, ltb-false, eqb-true, eqb-false, eq-eqb, lt-ltb}
+use Rattle.trees.specs.Lists.{weigh, count}
 use Rattle.trees.specs.Groups.{Group, member}
-use Rattle.trees.specs.Rows.{nodes, parent, rootMark, childOf, meets, groupAt, groups}
+use Rattle.trees.specs.Rows.{nodes, rootMark, childOf, meets, groupAt, groups}
 use Rattle.trees.specs.Valid.{Valid, In}
-use Rattle.trees.specs.BoolLaws.{and-l, and-r, and-both, and-false, or-cases, or-l, or-r, true-eq, not-yes, decide}
+use Rattle.trees.specs.BoolLaws.{and-l, and-r, and-both, or-cases, or-l, or-r, true-eq, decide}
 use Rattle.trees.specs.ListLaws.{tabulate-same, weigh-append, weigh-none}
 use Rattle.trees.specs.MemberLaws.{in-none, in-head, in-tail, in-cases, member-append}
 use Rattle.trees.specs.WayLaws.{meets-refl}
-use Rattle.trees.specs.RowLaws.{Above, groups-in, in-groups, no-leaf-above, valid-rooted}
+use Rattle.trees.specs.RowLaws.{Above, groups-in, no-leaf-above, valid-rooted}
 use Rattle.ascii.specs.Decimal.{decimal}
 use Rattle.newick.specs.Tree.{Mark, Tree, Forest}
 use Rattle.newick.specs.Tree.Mark.{unmarked, marked}
 use Rattle.newick.specs.Tree.Tree.{leaf, pair}
 use Rattle.newick.specs.Tree.Forest.{only, more}
-use Rattle.newick.specs.Grammar.{All, Support, Length, Subtree, Subtrees, Text}
+use Rattle.newick.specs.Grammar.{Support, Length, Subtree, Subtrees}
 use Rattle.newick.specs.Grammar.All.{none}
 use Rattle.newick.specs.Meaning.{samples, samplesIn, times, among, groupOf, groupsOf, groupsIn, lone, lonely, lonelyIn}
-use Rattle.newick.specs.RowText.{Wanted, childrenOf, commas, listed, wordText, markText, nodeText, rootOf, written}
+use Rattle.newick.specs.RowText.{Wanted, childrenOf, commas, listed, wordText, markText, nodeText}
 use Rattle.newick.specs.RowText.Wanted.{plain, with-words}
-use Rattle.newick.specs.ListedLaws.{count-same}
 use Rattle.newick.specs.DigitLaws.{decimal-support, decimal-sample}
-use Rattle.newick.specs.ChildLaws.{child-once, pairsAt, pairs-fall, pairs-some, pairs-few, root-at, root-above}
+use Rattle.newick.specs.ChildLaws.{child-once, pairsAt, pairs-fall, pairs-some}
 use Rattle.newick.specs.ChildrenLaws.{in-child, count-child, length-child}
 
 among-cond : (b : Bool) → leb 1 (cond b 1 0) ≡ b

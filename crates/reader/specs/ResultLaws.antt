@@ -25,12 +25,13 @@ use Rattle.newick.specs.Walk.Parse.{reads, stops}
 use Rattle.newick.specs.Tree.{Tree}
 use Rattle.newick.specs.Meaning.{samples, lonely}
 use Rattle.newick.specs.ReadCalls.{treeIn, check17, check18, checkLone, textChecks, readChecks, reading, rowIn}
-use Rattle.scan.specs.Scanning.{sampleBound}
+use Rattle.newick.specs.Grammar.{sampleBound}
 use Rattle.lay.specs.Laying.{Link, sets, grow, tally, least, laidRow}
 use Rattle.lay.specs.LaidRow.{laid-valid}
 use Rattle.lay.specs.Faults.{orAt, belowPlace, due, badMark, markCheck, loneCheck}
-use Rattle.lay.specs.FaultLaws.{place18, placeLone, passed-once, laid-row-in}
-use Rattle.lay.specs.Keeping.{keptIn, Lent}
+use Rattle.lay.specs.FaultLaws.{place18, placeLone, laid-row-in}
+use Rattle.newick.specs.FaultLaws.{stands-exactly}
+use Rattle.lay.specs.Keeping.{keptIn}
 use Rattle.reader.specs.Steps.{ReadyAt, Told}
 use Rattle.reader.specs.Results.{Unread, checksOf, treeOf, Lies, leftIn}
 
@@ -181,7 +182,7 @@ module _ (l : List ℕ) (n : ℕ) (row : List ℕ) (h : fewestSamples ≤ n) (k 
   passed18 = chain-passed (checksOf n l) (L .0) .1 .0
 
   pub read-valid : Valid n (take (rowWords n) row)
-  read-valid = subst (Valid n) (sym (L .1)) (laid-valid n (treeOf l) h k (passed-once n (treeOf l) passed18))
+  read-valid = subst (Valid n) (sym (L .1)) (laid-valid n (treeOf l) h k (stands-exactly n (treeOf l) .0 passed18))
 
   pub read-words : (out out′ : List ℕ) → out′ ≡ renumbered n (take (rowWords n) row)
       → (accepted ≡ checksOf n l ⊳ accepted) × (out′ ≡ leftIn n l out)

@@ -13,7 +13,7 @@ use Rattle.judge.specs.declared.Answer.the-variants.{Accepted, Refused}
 use Rattle.newick.specs.Tree.{Tree}
 use Rattle.newick.specs.Walk.{parsed}
 use Rattle.newick.specs.ReadCalls.{treeIn, textChecks, rowIn}
-use Rattle.scan.specs.Scanning.{sampleBound}
+use Rattle.newick.specs.Grammar.{sampleBound}
 use Rattle.lay.specs.Laying.{grow, laidRow}
 
 -- what a reading over n samples starts with: no node, no sample too large, no pair with one subtree, no link, no mark

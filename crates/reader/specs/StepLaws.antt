@@ -12,14 +12,15 @@ use Rattle.trees.specs.BoolLaws.{decide}
 use Rattle.newick.specs.Tree.{Tree, depth}
 use Rattle.newick.specs.Tree.Stack.{top}
 use Rattle.newick.specs.ByteLaws.{kind-all}
-use Rattle.newick.specs.Bytes.{kindOf, isBlank}
+use Rattle.newick.specs.Bytes.{semicolonByte, kindOf, isBlank}
 use Rattle.newick.specs.Walk.{parsed, final, step, shut, next, last}
 use Rattle.newick.specs.Walk.State.{measured, done}
 use Rattle.newick.specs.Walk.Move.{stuck}
 use Rattle.newick.specs.Walk.Parse.{reads, stops}
+use Rattle.newick.specs.Grammar.{mostOpen}
 use Rattle.scan.specs.declared.Progress.{Progress}
 use Rattle.scan.specs.declared.Progress.the-variants.{Reached, Stopped}
-use Rattle.scan.specs.Scanning.{mostNested, semicolonByte, past, from, Fresh, Stuck}
+use Rattle.scan.specs.Scanning.{past, from, Fresh, Stuck}
 use Rattle.scan.specs.RunLaws.{look-within, past-within, past-next, from-to, from-stuck, from-end, from-stops}
 use Rattle.scan.specs.StateLaws.{clash, blanks-on}
 use Rattle.lay.specs.Keeping.{Whole, LaidTo, Laid}
@@ -45,7 +46,7 @@ module _ (l : List ℕ) (p : Progress) (at : ℕ) (e : p ≡ Reached at) where
 
 -- a subtree with all brackets left
 pub reads-at : (l : List ℕ) (p : Progress) (at d : ℕ) (kept row marks : List ℕ) (r : Progress) (kept′ row′ marks′ : List ℕ)
-    → p ≡ Reached at → d ≡ mostNested
+    → p ≡ Reached at → d ≡ mostOpen
     → Laid l at d kept row marks r kept′ row′ marks′ → Reads l p kept row marks r kept′ row′ marks′
 reads-at l p at d kept row marks r kept′ row′ marks′ e f L = rw e (subst (λ (i : ℕ). Laid l at i kept row marks r kept′ row′ marks′) f L)
 
@@ -86,17 +87,17 @@ module _ (l : List ℕ) (e : ℕ) (t : Tree) where
 
 -- ---- the whole text
 
-text-stops : (l : List ℕ) (q : ℕ) → Stuck l 0 mostNested q → parsed l ≡ stops q
+text-stops : (l : List ℕ) (q : ℕ) → Stuck l 0 mostOpen q → parsed l ≡ stops q
 unfolding parsed depth
 text-stops l q w = w top refl
 
-text-reads : (l : List ℕ) (e : ℕ) (w : Whole l 0 mostNested e) → parsed l ≡ from l e (measured top (w .tree))
+text-reads : (l : List ℕ) (e : ℕ) (w : Whole l 0 mostOpen e) → parsed l ≡ from l e (measured top (w .tree))
 unfolding parsed depth
 text-reads l e w = w .goes top refl
 
 module _ (l kept row marks kept′ row′ marks′ : List ℕ) where
   -- a tree up to e, and what follows it
-  after-tree : (e : ℕ) → LaidTo l 0 mostNested kept row marks e kept′ row′ marks′
+  after-tree : (e : ℕ) → LaidTo l 0 mostOpen kept row marks e kept′ row′ marks′
       → Texts l kept row marks (endFrom l (blanksFrom l (semicolonFrom l (Reached e)))) kept′ row′ marks′
   after-tree e L = go (decide (eqb (getD l e 0) semicolonByte)) (decide (eqb (past isBlank l (e + 1)) (length l)))
     where

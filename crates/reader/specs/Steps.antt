@@ -7,12 +7,13 @@ use lib.Dec.{eqb}
 use lib.ListN.{length, getD}
 use Rattle.trees.specs.Tables.{tableWords}
 use Rattle.newick.specs.Tree.{Tree}
-use Rattle.newick.specs.Bytes.{isBlank}
+use Rattle.newick.specs.Bytes.{semicolonByte, isBlank}
 use Rattle.newick.specs.Walk.{parsed}
 use Rattle.newick.specs.Walk.Parse.{reads, stops}
+use Rattle.newick.specs.Grammar.{mostOpen}
 use Rattle.scan.specs.declared.Progress.{Progress}
 use Rattle.scan.specs.declared.Progress.the-variants.{Reached, Stopped}
-use Rattle.scan.specs.Scanning.{mostNested, semicolonByte, past}
+use Rattle.scan.specs.Scanning.{past}
 use Rattle.lay.specs.Keeping.{keptIn, Lent, Lays, Laid}
 
 -- a subtree may be read at a place of the text
@@ -29,7 +30,7 @@ Ready l (Stopped q) kept row marks = Unit {0}
 
 -- a subtree is read from where the reading has come, or that has stopped and stays so
 abbrev pub Reads : List ℕ → Progress → List ℕ → List ℕ → List ℕ → Progress → List ℕ → List ℕ → List ℕ → Type 0
-Reads l (Reached at) kept row marks r kept′ row′ marks′ = Laid l at mostNested kept row marks r kept′ row′ marks′
+Reads l (Reached at) kept row marks r kept′ row′ marks′ = Laid l at mostOpen kept row marks r kept′ row′ marks′
 Reads l (Stopped q) kept row marks r kept′ row′ marks′ = r ≡ Stopped q
 
 -- a semicolon; blanks; the end

@@ -40,10 +40,10 @@ pub(crate) fn check_samples(n: usize, marks: &Marks, large: usize) -> Answer
 {
     let x = bad_mark(n, marks);
     if x < MARKS {
-        return Answer::Refused(Refusal::SAMPLE, x);
+        return Answer::Refused(Refusal::LEAVES, x);
     }
     if large < NOTHING_LARGE {
-        return Answer::Refused(Refusal::SAMPLE, large);
+        return Answer::Refused(Refusal::LEAVES, large);
     }
     Answer::Accepted
 }

@@ -9,7 +9,7 @@ ghost use Rattle.trees.specs.Valid.{Valid};
 ghost use Rattle.trees.specs.Numbering.{renumbered};
 ghost use Rattle.judge.specs.Verdicts.{verdict};
 ghost use Rattle.newick.specs.ReadCalls.{reading};
-ghost use Rattle.scan.specs.Scanning.{sampleBound};
+ghost use Rattle.newick.specs.Grammar.{sampleBound};
 ghost use Rattle.lay.specs.Keeping.{keptIn};
 ghost use Rattle.reader.specs.Results.{Unread, Lies, checksOf, leftIn};
 use crate::checks::check_lone;

@@ -13,41 +13,12 @@ use Rattle.newick.specs.Lead.{lead}
 use Rattle.newick.specs.Walk.{State, Parse, walk}
 use Rattle.newick.specs.Walk.State.{want, sample, closed, ended, measured}
 use Rattle.newick.specs.Walk.Parse.{stops}
+use Rattle.newick.specs.Grammar.{mostOpen, sampleBound}
 use Rattle.scan.specs.declared.Progress.{Progress}
 use Rattle.scan.specs.declared.Progress.the-variants.{Reached, Stopped}
 use Rattle.scan.specs.declared.numbers.Number.{Number}
 use Rattle.scan.specs.declared.heads.Start.{Start}
 use Rattle.scan.specs.declared.heads.Start.the-variants.{Leaf, Pair, Nothing}
-
--- how many brackets may stand in one another
-abbrev pub mostNested : ℕ
-mostNested = 511
-
--- the bytes ( ) , ; : . and 0
-abbrev pub openByte : ℕ
-openByte = 40
-
-abbrev pub closeByte : ℕ
-closeByte = 41
-
-abbrev pub commaByte : ℕ
-commaByte = 44
-
-abbrev pub semicolonByte : ℕ
-semicolonByte = 59
-
-abbrev pub colonByte : ℕ
-colonByte = 58
-
-abbrev pub pointByte : ℕ
-pointByte = 46
-
-abbrev pub zeroByte : ℕ
-zeroByte = 48
-
--- what is above every sample of five digits
-abbrev pub sampleBound : ℕ
-sampleBound = 100000
 
 -- the place past the run of bytes that pass the test, from a place on
 abbrev pub past : (ℕ → Bool) → List ℕ → ℕ → ℕ
@@ -140,11 +111,11 @@ pub record Opens (l : List ℕ) (p d a : ℕ) : Type 0 where
   pub later : p ≤ a
   pub within : a < length l
   pub some : 0 < d
-  pub goes : (k : Stack) → depth k + d ≡ mostNested → from l p (want k) ≡ from l (a + 1) (want (opened k a))
+  pub goes : (k : Stack) → depth k + d ≡ mostOpen → from l p (want k) ≡ from l (a + 1) (want (opened k a))
 
 -- no subtree goes on at q
 abbrev pub Stuck : List ℕ → ℕ → ℕ → ℕ → Type 0
-Stuck l p d q = (k : Stack) → depth k + d ≡ mostNested → from l p (want k) ≡ stops q
+Stuck l p d q = (k : Stack) → depth k + d ≡ mostOpen → from l p (want k) ≡ stops q
 
 -- how a subtree starts
 abbrev pub Starts : List ℕ → ℕ → ℕ → Start → Type 0

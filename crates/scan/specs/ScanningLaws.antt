@@ -9,15 +9,16 @@ use Rattle.newick.specs.Lead.{run, markOf}
 use Rattle.newick.specs.Tree.{Tree, Forest, Stack}
 use Rattle.newick.specs.Tree.Tree.{leaf, pair}
 use Rattle.newick.specs.ByteLaws.{begun-zero, begun-other, digit-range}
-use Rattle.newick.specs.Bytes.{kindOf, isBlank, isDigit}
+use Rattle.newick.specs.Bytes.{colonByte, openingByte, pointByte, noughtByte, kindOf, isBlank, isDigit}
 use Rattle.newick.specs.Walk.{State, step, begun}
 use Rattle.newick.specs.Walk.State.{want, sample, closed, ended, measure, whole, point, part, measured}
+use Rattle.newick.specs.Grammar.{sampleBound}
 use Rattle.scan.specs.declared.Progress.{Progress}
 use Rattle.scan.specs.declared.Progress.the-variants.{Reached, Stopped}
 use Rattle.scan.specs.declared.numbers.Number.{Number}
 use Rattle.scan.specs.declared.heads.Start.{Start}
 use Rattle.scan.specs.declared.heads.Start.the-variants.{Leaf, Pair, Nothing}
-use Rattle.scan.specs.Scanning.{colonByte, openByte, pointByte, zeroByte, sampleBound, past, from, room, Sampling, Sampled, Followed}
+use Rattle.scan.specs.Scanning.{past, from, room, Sampling, Sampled, Followed}
 use Rattle.scan.specs.Scanning.{Follows, Tail, Closes, Lone, Opens, Stuck, Starts}
 use Rattle.scan.specs.RunLaws.{passes-within, look-within, past-within, past-next, from-to}
 use Rattle.scan.specs.StateLaws.{blanks-on, digits-on, ended-measured, whole-measured, part-measured, sample-ended, sample-full}
@@ -47,7 +48,7 @@ room-four : (x : ℕ) → x < 10 → x < room 4
 unfolding room
 room-four x h = h
 
-module _ (l : List ℕ) (p x : ℕ) (h : p < length l) (e : isDigit (getD l p 0) ≡ true) (f : x ≡ getD l p 0 - zeroByte) where
+module _ (l : List ℕ) (p x : ℕ) (h : p < length l) (e : isDigit (getD l p 0) ≡ true) (f : x ≡ getD l p 0 - noughtByte) where
   -- a 0 stands alone
   pub sample-nought : x ≡ 0 → Sampled l p (record { value = x; end = p + 1 })
   sample-nought z = record {
@@ -74,7 +75,7 @@ module _ (l : List ℕ) (p x i left : ℕ) (s : Sampling l p x i left) where
   sampling-small = room-small left x (s .small)
 
   -- a digit more
-  pub sampling-on : (d : ℕ) → 0 < left → isDigit (getD l i 0) ≡ true → d ≡ getD l i 0 - zeroByte
+  pub sampling-on : (d : ℕ) → 0 < left → isDigit (getD l i 0) ≡ true → d ≡ getD l i 0 - noughtByte
       → Sampling l p (x * 10 + d) (i + 1) (left - 1)
   sampling-on d h e f = let w = passes-within isDigit l i refl e in record {
     later = omega (arith, s .later);
@@ -232,12 +233,12 @@ module _ (l : List ℕ) (p a d : ℕ) (e : a ≡ past isBlank l p) where
   }
   starts-leaf (Nothing q) s = λ k u. to-want k ∙ s k u
 
-  pub starts-nothing : (b : ℕ) → b ≡ getD l a 0 → isDigit b ≡ false → (b ≡ openByte → ⊥) → Stuck l p d a
+  pub starts-nothing : (b : ℕ) → b ≡ getD l a 0 → isDigit b ≡ false → (b ≡ openingByte → ⊥) → Stuck l p d a
   starts-nothing b f g h = λ k u. to-want k ∙ want-stops l a k (past-next isBlank l p a e) (λ i. ap isDigit (sym f) ∙ g) (λ i. h (f ∙ i))
 
-  pub starts-full : (b : ℕ) → b ≡ getD l a 0 → b ≡ openByte → d ≡ 0 → Stuck l p d a
-  starts-full b f g h = λ k u. to-want k ∙ want-full l a d k (look-within l a openByte (sym f ∙ g) (omega arith)) (sym f ∙ g) h u
+  pub starts-full : (b : ℕ) → b ≡ getD l a 0 → b ≡ openingByte → d ≡ 0 → Stuck l p d a
+  starts-full b f g h = λ k u. to-want k ∙ want-full l a d k (look-within l a openingByte (sym f ∙ g) (omega arith)) (sym f ∙ g) h u
 
-  pub starts-pair : (b : ℕ) → b ≡ getD l a 0 → b ≡ openByte → 0 < d → Opens l p d a
-  starts-pair b f g h = let w = look-within l a openByte (sym f ∙ g) (omega arith) in
+  pub starts-pair : (b : ℕ) → b ≡ getD l a 0 → b ≡ openingByte → 0 < d → Opens l p d a
+  starts-pair b f g h = let w = look-within l a openingByte (sym f ∙ g) (omega arith) in
       record { later = omega (arith, e); within = w; some = h; goes = λ k u. to-want k ∙ want-opens l a d k w (sym f ∙ g) h u }

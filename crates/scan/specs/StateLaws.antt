@@ -19,13 +19,14 @@ use Rattle.newick.specs.Tree.Tree.{leaf, pair}
 use Rattle.newick.specs.Tree.Stack.{opened}
 use Rattle.newick.specs.ByteLaws.{kind-all, kind-blank, kind-digit}
 use Rattle.ascii.specs.Decimal.{valueAfter}
-use Rattle.newick.specs.Bytes.{kindOf, isBlank, isDigit}
+use Rattle.newick.specs.Bytes.{colonByte, openingByte, pointByte, noughtByte, kindOf, isBlank, isDigit}
 use Rattle.newick.specs.Bytes.Kind.{blank, digit}
 use Rattle.newick.specs.Walk.{State, walk, final, step, entered, begun, longer}
 use Rattle.newick.specs.Walk.State.{want, sample, closed, support, ended, measure, whole, point, part, measured}
 use Rattle.newick.specs.Walk.Move.{stuck, to}
 use Rattle.newick.specs.Walk.Parse.{stops}
-use Rattle.scan.specs.Scanning.{colonByte, openByte, pointByte, zeroByte, mostNested, past, from, Fresh, Plain}
+use Rattle.newick.specs.Grammar.{mostOpen}
+use Rattle.scan.specs.Scanning.{past, from, Fresh, Plain}
 use Rattle.scan.specs.RunLaws.{passes-within, past-stop, past-more, past-next, from-to, from-stuck, from-same, from-stops, from-run}
 
 pub clash : {P : Type 0} {x : Bool} → x ≡ true → x ≡ false → P
@@ -47,8 +48,8 @@ digits-on l b c s s′ f g u n = go (isDigit (getD l b 0)) refl
     go false e = absurd (n (u ∙ past-stop isDigit l b e))
     go true e =
         let h = passes-within isDigit l b refl e in
-        rw u (from-to l b s s′ h (rw (kind-digit (getD l b 0) e) (f b (getD l b 0 - zeroByte)))
-        ∙ from-run isDigit l (b + 1) s′ (λ q i d. rw (kind-digit i d) (g q (i - zeroByte)))
+        rw u (from-to l b s s′ h (rw (kind-digit (getD l b 0) e) (f b (getD l b 0 - noughtByte)))
+        ∙ from-run isDigit l (b + 1) s′ (λ q i d. rw (kind-digit i d) (g q (i - noughtByte)))
         ∙ ap (λ (i : ℕ). from l i s′) (sym (past-more isDigit l b h e)))
 
 -- ---- states that go on alike
@@ -131,7 +132,7 @@ support-run k q g (b ∷ m) x p = go (isDigit b) refl (support-run k q g m)
         (drop (lead isDigit m) m))
         → walk (support k q g x) p (b ∷ m) ≡ walk (support k q g (valueAfter x (run isDigit (b ∷ m)))) (p + lead isDigit (b ∷ m))
         (drop (lead isDigit (b ∷ m)) (b ∷ m))
-    go true e f = rw (e, kind-digit b e, add-suc p (lead isDigit m), sym (suc-add p (lead isDigit m))) (f (x * 10 + (b - zeroByte)) (suc p))
+    go true e f = rw (e, kind-digit b e, add-suc p (lead isDigit m), sym (suc-add p (lead isDigit m))) (f (x * 10 + (b - noughtByte)) (suc p))
     go false e f = rw (e, add-zero p)
 
 from-support : (l : List ℕ) (p : ℕ) (k : Stack) (q : ℕ) (g : Forest) (x : ℕ)
@@ -156,8 +157,8 @@ digits-ended l b k q g f = go (isDigit (getD l b 0)) refl
     go true d =
         let w = passes-within isDigit l b refl d in
         let z : drop (b + 1) l ≡ drop (suc b) l = ap (λ (i : ℕ). drop i l) (add-one b) in
-        from-to l b (closed k q g) (support k q g (getD l b 0 - zeroByte)) w (rw (kind-digit (getD l b 0) d))
-        ∙ from-support l (b + 1) k q g (getD l b 0 - zeroByte)
+        from-to l b (closed k q g) (support k q g (getD l b 0 - noughtByte)) w (rw (kind-digit (getD l b 0) d))
+        ∙ from-support l (b + 1) k q g (getD l b 0 - noughtByte)
         ∙ support-ended l (past isDigit l (b + 1)) k q g _ (past-next isDigit l (b + 1) (past isDigit l (b + 1)) refl)
         ∙ rw (past-more isDigit l b w d, drop-cons l b 0 w, d, z) refl
 
@@ -182,18 +183,18 @@ point-stops l b k t f =
 
 -- ---- where a subtree has to come: digits, an opening bracket if one may come, and else nothing
 
-pub want-opens : (l : List ℕ) (a d : ℕ) (k : Stack) → a < length l → getD l a 0 ≡ openByte → 0 < d → depth k + d ≡ mostNested
+pub want-opens : (l : List ℕ) (a d : ℕ) (k : Stack) → a < length l → getD l a 0 ≡ openingByte → 0 < d → depth k + d ≡ mostOpen
     → from l a (want k) ≡ from l (a + 1) (want (opened k a))
 unfolding step kindOf entered
 want-opens l a d k w b h e =
-    let z : depth k < mostNested = omega arith in from-to l a (want k) (want (opened k a)) w (rw (b, lt-ltb (depth k) mostNested z))
+    let z : depth k < mostOpen = omega arith in from-to l a (want k) (want (opened k a)) w (rw (b, lt-ltb (depth k) mostOpen z))
 
-pub want-full : (l : List ℕ) (a d : ℕ) (k : Stack) → a < length l → getD l a 0 ≡ openByte → d ≡ 0 → depth k + d ≡ mostNested
+pub want-full : (l : List ℕ) (a d : ℕ) (k : Stack) → a < length l → getD l a 0 ≡ openingByte → d ≡ 0 → depth k + d ≡ mostOpen
     → from l a (want k) ≡ stops a
 unfolding step kindOf entered
-want-full l a d k w b h e = let z : mostNested ≤ depth k = omega arith in from-stuck l a (want k) w (rw (b, le-ltb (depth k) mostNested z))
+want-full l a d k w b h e = let z : mostOpen ≤ depth k = omega arith in from-stuck l a (want k) w (rw (b, le-ltb (depth k) mostOpen z))
 
-pub want-stops : (l : List ℕ) (a : ℕ) (k : Stack) → Fresh l a → Plain l a → (getD l a 0 ≡ openByte → ⊥) → from l a (want k) ≡ stops a
+pub want-stops : (l : List ℕ) (a : ℕ) (k : Stack) → Fresh l a → Plain l a → (getD l a 0 ≡ openingByte → ⊥) → from l a (want k) ≡ stops a
 unfolding step final
 want-stops l a k n f g =
     from-stops l a (want k)
@@ -202,15 +203,15 @@ want-stops l a k n f g =
     refl
 
 -- the first digit of a sample, and one more
-pub sample-begins : (l : List ℕ) (a f : ℕ) (k : Stack) → a < length l → isDigit (getD l a 0) ≡ true → f ≡ getD l a 0 - zeroByte
+pub sample-begins : (l : List ℕ) (a f : ℕ) (k : Stack) → a < length l → isDigit (getD l a 0) ≡ true → f ≡ getD l a 0 - noughtByte
     → from l a (want k) ≡ from l (a + 1) (begun k f)
 unfolding step
-sample-begins l a f k h e d = rw d (from-to l a (want k) (begun k (getD l a 0 - zeroByte)) h (rw (kind-digit (getD l a 0) e)))
+sample-begins l a f k h e d = rw d (from-to l a (want k) (begun k (getD l a 0 - noughtByte)) h (rw (kind-digit (getD l a 0) e)))
 
-pub sample-longer : (l : List ℕ) (i x c d : ℕ) (k : Stack) → i < length l → isDigit (getD l i 0) ≡ true → d ≡ getD l i 0 - zeroByte → 0 < c
+pub sample-longer : (l : List ℕ) (i x c d : ℕ) (k : Stack) → i < length l → isDigit (getD l i 0) ≡ true → d ≡ getD l i 0 - noughtByte → 0 < c
     → from l i (sample k x c) ≡ from l (i + 1) (sample k (x * 10 + d) (c - 1))
 unfolding step longer
 sample-longer l i x zero d k h e g n = absurd (omega arith)
 sample-longer l i x (suc c) d k h e g n =
-    rw g (from-to l i (sample k x (suc c)) (sample k (x * 10 + (getD l i 0 - zeroByte)) c) h (rw (kind-digit (getD l i 0) e))
-    ∙ ap (λ (j : ℕ). from l (i + 1) (sample k (x * 10 + (getD l i 0 - zeroByte)) j)) (let z : c ≡ suc c - 1 = omega arith in z))
+    rw g (from-to l i (sample k x (suc c)) (sample k (x * 10 + (getD l i 0 - noughtByte)) c) h (rw (kind-digit (getD l i 0) e))
+    ∙ ap (λ (j : ℕ). from l (i + 1) (sample k (x * 10 + (getD l i 0 - noughtByte)) j)) (let z : c ≡ suc c - 1 = omega arith in z))

@@ -3,8 +3,8 @@ ghost use mathlib.Core.Path.{_≡_};
 ghost use mathlib.Core.Bool.{true};
 ghost use Prim.Native.Nat.{_-_};
 ghost use lib.ListN.{getD};
-ghost use Rattle.newick.specs.Bytes.{isBlank, isDigit};
-ghost use Rattle.scan.specs.Scanning.{zeroByte, past};
+ghost use Rattle.newick.specs.Bytes.{noughtByte, isBlank, isDigit};
+ghost use Rattle.scan.specs.Scanning.{past};
 
 // The byte at a place, or 0 past the end.
 pub fn look(s: &[u8], at: usize) -> u8
@@ -33,7 +33,7 @@ pub(crate) fn is_digit(b: u8) -> bool
 // The value of a digit.
 pub(crate) fn digit(b: u8) -> usize
     requires { ⌜ isDigit b ≡ true ⌝ }
-    ensures { λ r. ⌜ r ≡ b - zeroByte ⌝ }
+    ensures { λ r. ⌜ r ≡ b - noughtByte ⌝ }
 {
     (b - b'0') as usize
 }

@@ -23,7 +23,7 @@ use Rattle.judge.specs.declared.Answer.the-variants.{Accepted, Refused}
 use Rattle.judge.specs.Verdicts.{verdict}
 use Rattle.judge.proofs.Laws.{goes}
 use Rattle.writer.specs.Lengths.{wantedBy}
-use Rattle.writer.specs.Writings.{outcomeOf, roomOutcome}
+use Rattle.writer.specs.Remaining.{outcomeOf, roomOutcome}
 use Rattle.writer.specs.WritingsLaws.{outcome-stops, outcome-goes, room-enough}
 
 -- ---- checks that come first: a refusal is passed on, and after an acceptance the rest decides

@@ -5,4 +5,5 @@ pub mod LengthLaws
 pub mod NestingLaws
 pub mod Putting
 pub mod Writings
+pub mod Remaining
 pub mod WritingsLaws

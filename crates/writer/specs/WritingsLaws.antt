@@ -1,17 +1,16 @@
 -- Two answers of writing with one verdict are the same; a refusal leaves the text, after an acceptance the rest decides. Assumes nothing.
 use Prim.Native.Nat.{ℕ, _≤_, _<_}
-use mathlib.Core.Path.{_≡_, refl, sym, ap, _∙_}
+use mathlib.Core.Path.{_≡_, refl, _∙_}
 use mathlib.Core.List.{List, [], _∷_, _++_}
-use mathlib.Core.Bool.{cond}
 use lib.ListN.{length, drop}
 use borrow.Author.Tests.{lt-ltb, le-ltb}
 use Rattle.trees.specs.Checks.{Verdict, accepted, refused, wrote, Check, _⊳_, check1, rowChecks}
-use Rattle.trees.specs.Valid.{isAccepted}
 use Rattle.trees.specs.ChainLaws.{chain-append, chain-given, given-chain, chain-passed, passed-chain, accepted-other}
 use Rattle.newick.specs.RowText.{Wanted, check3Wanted, checkRoom, written, writeChecks, writing}
 use Rattle.writer.specs.declared.calls.Written.{Written}
 use Rattle.writer.specs.declared.calls.Written.the-variants.{Length, Refused}
-use Rattle.writer.specs.Writings.{writtenVerdict, outcomeOf, roomOutcome}
+use Rattle.writer.specs.Writings.{writtenVerdict}
+use Rattle.writer.specs.Remaining.{outcomeOf, roomOutcome}
 
 pub written-injective : (a b : Written) → writtenVerdict a ≡ writtenVerdict b → a ≡ b
 written-injective (Length k) (Length j) e = cc

@@ -3,7 +3,7 @@ use mathlib.Core.Path.{refl, sym, _∙_}
 use mathlib.Core.Logic.{inl, inr}
 use native.Mathlib.Omega.{arith}
 use denote.Ref.{now}
-use Rattle.scan.specs.Scanning.{closeByte}
+use Rattle.newick.specs.Bytes.{closingByte}
 use Rattle.scan.specs.RunLaws.{look-within}
 use Rattle.lay.proofs.Steps.{closed-by}
 use borrow.Author.Needs.{needs}
@@ -19,12 +19,12 @@ returns c = inl (refl, λ e. c .if1 .taken (c .before .look .ensures ∙ e))
 add-closes : tie.Need-add-closes
 add-closes c =
     let K = c .before in let st = K .before .before in
-    omega (arith, look-within (now (st .args .s)) (st .args .e) closeByte (sym (K .look .ensures) ∙ c .if1 .left) (omega arith))
+    omega (arith, look-within (now (st .args .s)) (st .args .e) closingByte (sym (K .look .ensures) ∙ c .if1 .left) (omega arith))
 
 closes-requires : tie.Need-closes-requires
 closes-requires c κs =
     let K = c .before in let st = K .before .before in
-    omega (arith, look-within (now (st .args .s)) (st .args .e) closeByte (sym (K .look .ensures) ∙ c .if1 .left) (omega arith))
+    omega (arith, look-within (now (st .args .s)) (st .args .e) closingByte (sym (K .look .ensures) ∙ c .if1 .left) (omega arith))
 
 enum-told : tie.Need-enum-told
 enum-told c = search needs

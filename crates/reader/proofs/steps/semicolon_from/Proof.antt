@@ -2,7 +2,7 @@
 use mathlib.Core.Path.{refl, sym, _∙_}
 use native.Mathlib.Omega.{arith}
 use denote.Ref.{now}
-use Rattle.scan.specs.Scanning.{semicolonByte}
+use Rattle.newick.specs.Bytes.{semicolonByte}
 use Rattle.scan.specs.RunLaws.{look-within}
 use Rattle.reader.specs.StepLaws.{semicolon-yes, semicolon-no}
 use borrow.Author.Needs.{needs}

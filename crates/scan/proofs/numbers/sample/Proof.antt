@@ -6,9 +6,9 @@ use native.Mathlib.Omega.{arith}
 use lib.ListN.{getD}
 use denote.Ref.{now}
 use borrow.Author.Tests.{not-true, not-false}
-use Rattle.newick.specs.Bytes.{isDigit}
+use Rattle.newick.specs.Bytes.{noughtByte, isDigit}
 use Rattle.newick.specs.ByteLaws.{digit-range}
-use Rattle.scan.specs.Scanning.{zeroByte, Sampling}
+use Rattle.scan.specs.Scanning.{Sampling}
 use Rattle.scan.specs.RunLaws.{passes-within}
 use Rattle.scan.specs.ScanningLaws.{sample-nought, sample-first, sampling-small, sampling-on, sampling-ends, sampling-full}
 use borrow.Author.Needs.{needs}
@@ -41,12 +41,12 @@ add-i c = search needs
 returns : tie.Need-returns Inv-loop μ-loop
 returns c =
     let D = c .before in let K = D .before in let st = K .before .before in
-    sample-nought _ _ _ (st .pre .0) (st .pre .1) (D .digit .ensures ∙ ap (λ (b : ℕ). b - zeroByte) (K .look .ensures)) (c .if1 .taken)
+    sample-nought _ _ _ (st .pre .0) (st .pre .1) (D .digit .ensures ∙ ap (λ (b : ℕ). b - noughtByte) (K .look .ensures)) (c .if1 .taken)
 
 loop-holds : tie.Need-loop-holds Inv-loop μ-loop
 loop-holds c =
     let D = c .before in let K = D .before in let st = K .before .before in
-    sample-first _ _ _ (st .pre .0) (st .pre .1) (D .digit .ensures ∙ ap (λ (b : ℕ). b - zeroByte) (K .look .ensures)) _ (omega arith)
+    sample-first _ _ _ (st .pre .0) (st .pre .1) (D .digit .ensures ∙ ap (λ (b : ℕ). b - noughtByte) (K .look .ensures)) _ (omega arith)
     (c .if1 .left)
 
 look-requires-2 : tie.Need-look-requires-2 Inv-loop μ-loop
@@ -91,7 +91,7 @@ loop-less c = search needs
 loop-again : tie.Need-loop-again Inv-loop μ-loop
 loop-again c =
     let E = c .before in let K = E .before .before in let L = K .before .before in
-    sampling-on _ _ _ _ _ (L .loop .inv) _ (search needs) (stands E) (c .digit2 .ensures ∙ ap (λ (b : ℕ). b - zeroByte) (K .look2 .ensures))
+    sampling-on _ _ _ _ _ (L .loop .inv) _ (search needs) (stands E) (c .digit2 .ensures ∙ ap (λ (b : ℕ). b - noughtByte) (K .look2 .ensures))
 
 returns-3 : tie.Need-returns-3 Inv-loop μ-loop
 returns-3 c = let L : tie.At-loop Inv-loop μ-loop = search needs in sampling-full _ _ _ _ _ (L .loop .inv) (omega arith)

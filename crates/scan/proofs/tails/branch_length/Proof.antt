@@ -2,7 +2,7 @@
 use mathlib.Core.Path.{sym, _∙_}
 use native.Mathlib.Omega.{arith}
 use denote.Ref.{now}
-use Rattle.scan.specs.Scanning.{pointByte}
+use Rattle.newick.specs.Bytes.{pointByte}
 use Rattle.scan.specs.RunLaws.{look-within}
 use Rattle.scan.specs.ScanningLaws.{length-none, length-whole, length-part}
 use borrow.Author.Needs.{needs}

@@ -2,7 +2,7 @@
 use mathlib.Core.Path.{sym, _∙_}
 use native.Mathlib.Omega.{arith}
 use denote.Ref.{now}
-use Rattle.scan.specs.Scanning.{colonByte}
+use Rattle.newick.specs.Bytes.{colonByte}
 use Rattle.scan.specs.RunLaws.{look-within}
 use Rattle.scan.specs.ScanningLaws.{tail-none, tail-length}
 use borrow.Author.Needs.{needs}
