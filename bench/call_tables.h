@@ -62,7 +62,7 @@ struct table { const char *name, *other; const struct line *lines; int count; vo
 
 #define LINES(lines) (lines), sizeof(lines) / sizeof *(lines)
 static const struct table row_table = {"single rows", "linear C", LINES(row_lines), try_row_line};
-static const struct table text_table = {"texts", "C renumbering alike", LINES(text_lines), try_text_line};
+static const struct table text_table = {"texts", "C climbing alike", LINES(text_lines), try_text_line};
 
 static void measure_table(const struct table *t, enum shape shape) {
     printf("\n%s, %s\n\n| call | n | library | plain C | to plain C | to %s | grows | as n or n² |\n"

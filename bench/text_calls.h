@@ -39,7 +39,7 @@ enum {
 };
 static unsigned came;
 
-// The other version of reading renumbers as the library does. A text with a sample twice is read to its end, and not renumbered.
+// The other version of reading climbs from each sample, as the library does. A text with a sample twice is read to its end, and not renumbered.
 static const struct line text_lines[] = {
     {.name = "read", .library = bare_by_library, .plain = bare_by_plain, .other = bare_by_alike, .power = SQUARE, .numbers = READING},
     {.name = "read, dressed", .library = dressed_by_library, .plain = dressed_by_plain, .other = dressed_by_alike, .power = SQUARE,

@@ -108,7 +108,7 @@ counts-back n r q a b =
     let m = nontrivial-most n r a in
     let k = nontrivial-most n q b in
     let t = counted-back (shared x y) (alone x y) (alone y x) (omega (arith, shared-alone x y, a .most)) (omega (arith, shared-alone x y, a .most))
-      (omega (arith, shared-alone y x, b .most)) in
+    (omega (arith, shared-alone y x, b .most)) in
     (t .0, rw (t .1, t .2, t .3))
 
 pub comparing-unpacked : (n : ℕ) (r q : List ℕ) → unpackedCounts (packed (comparing n r q)) ≡ comparing n r q

@@ -90,12 +90,7 @@ pub fn write_newick(n: usize, row: &[u16], text: &mut [u8]) -> Written
 }
 
 // The same with the words of a support row behind the closing brackets of inner nodes (RULES 14.11).
-pub fn write_newick_supports(
-    n: usize,
-    row: &[u16],
-    support: &[u16],
-    text: &mut [u8],
-) -> Written
+pub fn write_newick_supports(n: usize, row: &[u16], support: &[u16], text: &mut [u8]) -> Written
     ensures answer { λ r. ⌜ writtenVerdict r ≡ writing n (now (row .entry)) (with-words (now (support .entry))) (now (text .entry)) .verdict ⌝ }
     ensures bytes { λ _. ⌜ now (text .exit) ≡ writing n (now (row .entry)) (with-words (now (support .entry))) (now (text .entry)) .words ⌝ }
 {

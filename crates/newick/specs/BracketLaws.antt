@@ -49,11 +49,11 @@ module _ (n : ℕ) (r : List ℕ) (ok : Valid n r) (v : ℕ) (h : v < nodes r) w
       let b = in-bucket s x m in
       let both : ℕ → Bool = λ u. eqb (key u) s && childOf r v u in
       let one : count both (range 0 (nodes r)) ≡ 1 = count-unique both 0 (nodes r) x (omega arith) (b .0)
-        (and-both _ _ (eq-eqb (key x) s (b .1)) (eq-eqb (parent r x) v (b .2)))
-        (λ c i k t. lowest-differ n r ok v x c h (b .0) k (b .2) (eqb-true (parent r c) v (and-r (eqb (key c) s) (childOf r v c) t))
-        (b .1 ∙ sym (eqb-true (key c) s (and-l (eqb (key c) s) (childOf r v c) t)))) in
+      (and-both _ _ (eq-eqb (key x) s (b .1)) (eq-eqb (parent r x) v (b .2)))
+      (λ c i k t. lowest-differ n r ok v x c h (b .0) k (b .2) (eqb-true (parent r c) v (and-r (eqb (key c) s) (childOf r v c) t))
+      (b .1 ∙ sym (eqb-true (key c) s (and-l (eqb (key c) s) (childOf r v c) t)))) in
       let l : length (filter (childOf r v) (nodesAt n r s)) ≡ 1 =
-        length-filter (childOf r v) (nodesAt n r s) ∙ count-filtered (λ u. eqb (key u) s) (childOf r v) (range 0 (nodes r)) ∙ one in
+      length-filter (childOf r v) (nodesAt n r s) ∙ count-filtered (λ u. eqb (key u) s) (childOf r v) (range 0 (nodes r)) ∙ one in
       subst (RisesBy key) (sym (one-long x _ l m) ∙ e) (λ y k. absurd (List·Memᴰ·not-nil k), tt)
 
   from-rises : (k s : ℕ) → s + k ≡ n → RisesBy key (filter (childOf r v) (gather (nodesAt n r) (range s n)))

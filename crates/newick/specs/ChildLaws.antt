@@ -43,8 +43,8 @@ module _ (n : ℕ) (r : List ℕ) (ok : Valid n r) where
       go (inl e) =
           let w = step-down n r (valid-rooted n r ok) v u e k x in
           rw e (count-unique (λ c. childOf r v c && meets (nodes r) r c u) 0 (nodes r) (w .0) zero-le (w .1)
-            (and-both (childOf r v (w .0)) (meets (nodes r) r (w .0) u) (eq-eqb (parent r (w .0)) v (w .2)) (w .3))
-            (λ d a b q. one-child v (w .0) d u h (w .2) (eqb-true (parent r d) v (and-l (childOf r v d) (meets (nodes r) r d u) q)) (w .3) (and-r (childOf r v d) (meets (nodes r) r d u) q)))
+          (and-both (childOf r v (w .0)) (meets (nodes r) r (w .0) u) (eq-eqb (parent r (w .0)) v (w .2)) (w .3))
+          (λ d a b q. one-child v (w .0) d u h (w .2) (eqb-true (parent r d) v (and-l (childOf r v d) (meets (nodes r) r d u) q)) (w .3) (and-r (childOf r v d) (meets (nodes r) r d u) q)))
       go (inr e) = rw e (weigh-none (λ c. 1) (λ c. childOf r v c && meets (nodes r) r c u) (range 0 (nodes r)) (λ c m. not-yes (childOf r v c && meets (nodes r) r c u) (λ q.
           false≢true (sym e ∙ below-child n r (valid-rooted n r ok) c v u (in-range 0 (nodes r) c m .1) h k (eqb-true (parent r c) v (and-l (childOf r v c) (meets (nodes r) r c u) q)) (and-r (childOf r v c) (meets (nodes r) r c u) q)))))
 

@@ -28,7 +28,6 @@ use Rattle.newick.specs.Grammar.{All, Blanks, Digits, mostDigits, Sample
 use Rattle.newick.specs.Grammar.All.{none, and}
 use Rattle.newick.specs.Grammar.Digits.{digits}
 
-
 -- l leads from s, at place p, to s′, whatever comes after
 pub Takes : State → ℕ → List ℕ → State → Type 0
 Takes s p l s′ = (r : List ℕ) → walk s p (l ++ r) ≡ walk s′ (p + length l) r
@@ -96,21 +95,27 @@ lands-on s s′ p l m k t f h = record { final = h .final; ending = h .ending; t
 end-whole : (k : Stack) (t : Tree) → Ending (whole k t) k t
 unfolding step
 end-whole k t = record { rights = λ p. refl; commas = λ p. refl; semis = λ p. refl }
+
 end-part : (k : Stack) (t : Tree) → Ending (part k t) k t
 unfolding step
 end-part k t = record { rights = λ p. refl; commas = λ p. refl; semis = λ p. refl }
+
 end-measured : (k : Stack) (t : Tree) → Ending (measured k t) k t
 unfolding step
 end-measured k t = record { rights = λ p. refl; commas = λ p. refl; semis = λ p. refl }
+
 tail-ended : (k : Stack) (t : Tree) → Tailing (ended k t) k t
 unfolding step
 tail-ended k t = record { ending = record { rights = λ p. refl; commas = λ p. refl; semis = λ p. refl }; colons = λ p. refl }
+
 tail-closed : (k : Stack) (q : ℕ) (f : Forest) → Tailing (closed k q f) k (pair q f unmarked)
 unfolding step
 tail-closed k q f = record { ending = record { rights = λ p. refl; commas = λ p. refl; semis = λ p. refl }; colons = λ p. refl }
+
 tail-support : (k : Stack) (q : ℕ) (f : Forest) (x : ℕ) → Tailing (support k q f x) k (pair q f (marked x))
 unfolding step
 tail-support k q f x = record { ending = record { rights = λ p. refl; commas = λ p. refl; semis = λ p. refl }; colons = λ p. refl }
+
 tail-sample : (k : Stack) (x c : ℕ) → Tailing (sample k x c) k (leaf x)
 unfolding step
 tail-sample k x c = record { ending = record { rights = λ p. refl; commas = λ p. refl; semis = λ p. refl }; colons = λ p. refl }
@@ -240,10 +245,15 @@ bracket-lands k p a l s m f μ b w h u v =
 parted-lands : (k : Stack) (a p : ℕ) (l m : List ℕ) (f : Forest) (t : Tree) → LandsIn k a p l f → Lands (want (later k a f)) (suc (p + length l)) m (later k a f) t → LandsIn k a p (l ++ (44 ∷ m)) (more f t)
 unfolding kindOf
 parted-lands k a p l m f t h g =
-    record { held = some f; tree = t; all = refl; lands =
-      lands-on (want (opened k a)) (h .lands .final) p l (44 ∷ m) (later k a f) t (h .lands .takes)
-      (lands-byte (h .lands .final) (want (later k a f)) (p + length l) 44 m (later k a f) t
-      (h .lands .ending .commas (p + length l) ∙ next-frame k a (h .held) (h .tree) ∙ ap (λ (g : Forest). to (want (later k a g))) (h .all)) g) }
+    record {
+      held = some f;
+      tree = t;
+      all = refl;
+      lands =
+          lands-on (want (opened k a)) (h .lands .final) p l (44 ∷ m) (later k a f) t (h .lands .takes)
+          (lands-byte (h .lands .final) (want (later k a f)) (p + length l) 44 m (later k a f) t
+          (h .lands .ending .commas (p + length l) ∙ next-frame k a (h .held) (h .tree) ∙ ap (λ (g : Forest). to (want (later k a g))) (h .all)) g);
+    }
 
 depth-opened : (k : Stack) (a d : ℕ) → suc (depth k) + d ≤ mostOpen → depth (opened k a) + d ≤ mostOpen
 unfolding depth
@@ -276,7 +286,7 @@ unfolding parsed Takes step kindOf last depth walk final
 complete (Text.a-text l a t s b) =
     let h = subtree-lands s top (le-refl mostOpen) in
     let u : Takes (h .final) (0 + length l) (59 ∷ a) (done t) =
-      takes-byte (h .final) (done t) (done t) (0 + length l) 59 a (h .ending .semis (0 + length l)) (takes-blanks (done t) (λ i. refl) (suc (0 + length l)) b) in
+    takes-byte (h .final) (done t) (done t) (0 + length l) 59 a (h .ending .semis (0 + length l)) (takes-blanks (done t) (λ i. refl) (suc (0 + length l)) b) in
     h .takes (59 ∷ a) ∙ ap (walk (h .final) (0 + length l)) (sym (append-nil (59 ∷ a))) ∙ u []
 
 -- a text of the form has one meaning

@@ -68,8 +68,12 @@ module _ (n : ℕ) (t : Tree) where
   amiss-exactly p = (
     λ e. let l = first-lowest (amiss n (samples t)) 0 end p e in
         record { holds = amiss-to p (l .passes); none = λ x h k. k (stands-from x (l .none x zero-le h)) },
-    λ l. lowest-first (amiss n (samples t)) 0 end p (record { from = zero-le; to = amiss-near p (l .holds); passes = amiss-from p (l .holds);
-        none = λ x a h. ⊎-elim (λ w. absurd (l .none x h (amiss-to x w))) (λ w. w) (decide (amiss n (samples t) x)) }),
+    λ l. lowest-first (amiss n (samples t)) 0 end p (record {
+      from = zero-le;
+      to = amiss-near p (l .holds);
+      passes = amiss-from p (l .holds);
+      none = λ x a h. ⊎-elim (λ w. absurd (l .none x h (amiss-to x w))) (λ w. w) (decide (amiss n (samples t) x));
+    }),
   )
 
   -- it passes exactly if nothing is amiss
@@ -98,6 +102,7 @@ sample-small (Sample.numeral b l d z a k) = value-small (b - noughtByte) (omega 
 
 mutual
   unfolding samples samplesIn weigh
+
   sub-small : {d p : ℕ} {w : List ℕ} {t : Tree} → Subtree d p w t → (x : ℕ) → 1 ≤ times x (samples t) → x < sampleBound
   sub-small (Subtree.a-sample d p w a l m y e b s g) x h =
       ⊎-elim (λ z. omega (arith, eqb-true x y z, sample-small s)) (λ z. absurd (omega (arith, rw z at h))) (decide (eqb x y))
@@ -128,6 +133,7 @@ pair-length w a l s m e =
 
 mutual
   unfolding lonely lonelyIn weigh
+
   sub-opens : {d p : ℕ} {w : List ℕ} {t : Tree} → Subtree d p w t → (q : ℕ) → Single t q → (p ≤ q) × (q < p + length w)
   sub-opens (Subtree.a-sample d p w a l m x e b s g) q h = absurd (omega arith)
   sub-opens (Subtree.a-pair d p o w a l s m f μ e r b g u v) q h =
@@ -159,8 +165,12 @@ module _ {l : List ℕ} {t : Tree} (s : Text l t) where
   single-exactly q = (
     λ e. let f = first-lowest (λ x. among x (lonely t)) 0 (length l) q e in
         record { holds = leb-true 1 (times q (lonely t)) (f .passes); none = λ x h k. omega (arith, leb-false 1 (times x (lonely t)) (f .none x zero-le h)) },
-    λ f. lowest-first (λ x. among x (lonely t)) 0 (length l) q (record { from = zero-le; to = single-within s q (f .holds);
-        passes = le-leb 1 (times q (lonely t)) (f .holds); none = λ x a h. quiet x (f .none x h) }),
+    λ f. lowest-first (λ x. among x (lonely t)) 0 (length l) q (record {
+      from = zero-le;
+      to = single-within s q (f .holds);
+      passes = le-leb 1 (times q (lonely t)) (f .holds);
+      none = λ x a h. quiet x (f .none x h);
+    }),
   )
 
   -- it passes exactly if there is none

@@ -58,15 +58,15 @@ pub data Length : List ℕ → Type 0 where
 mutual
   pub data Subtree : ℕ → ℕ → List ℕ → Tree → Type 0 where
     a-sample : (d p : ℕ) (w a l m : List ℕ) (x : ℕ) → w ≡ a ++ (l ++ m) → Blanks a → Sample l x → Length m
-      → Subtree d p w (leaf x)
+        → Subtree d p w (leaf x)
     a-pair : (d p q : ℕ) (w a l s m : List ℕ) (f : Forest) (μ : Mark)
-      → w ≡ a ++ (openingByte ∷ (l ++ (closingByte ∷ (s ++ m)))) → q ≡ p + length a
-      → Blanks a → Subtrees d (suc q) l f → Support s μ → Length m → Subtree (suc d) p w (pair q f μ)
+        → w ≡ a ++ (openingByte ∷ (l ++ (closingByte ∷ (s ++ m)))) → q ≡ p + length a
+        → Blanks a → Subtrees d (suc q) l f → Support s μ → Length m → Subtree (suc d) p w (pair q f μ)
 
   pub data Subtrees : ℕ → ℕ → List ℕ → Forest → Type 0 where
     one : (d p : ℕ) (l : List ℕ) (t : Tree) → Subtree d p l t → Subtrees d p l (only t)
     parted : (d p : ℕ) (w l m : List ℕ) (f : Forest) (t : Tree) → w ≡ l ++ (commaByte ∷ m)
-      → Subtrees d p l f → Subtree d (suc (p + length l)) m t → Subtrees d p w (more f t)
+        → Subtrees d p l f → Subtree d (suc (p + length l)) m t → Subtrees d p w (more f t)
 
 -- how many brackets are open at once, at most (RULES 14.6)
 abbrev pub mostOpen : ℕ

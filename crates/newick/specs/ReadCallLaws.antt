@@ -129,13 +129,27 @@ module _ (n : ℕ) (l out : List ℕ) where
   pub reading-accepts : (reading n l out .verdict ≡ accepted) ↔ (Sized n out × ((t : Tree) × Text l t × Readable n t))
   unfolding reading readChecks textChecks
   reading-accepts = (
-    λ e. let h = chain-passed checks e in let s = formed (h .1 .1 .0) in
-        (sized-to n out (h .0, (h .1 .0, tt)),
-        (tree, s, record { once = stands-exactly n tree .0 (h .1 .1 .1 .0); paired = paired-exactly s .0 (h .1 .1 .1 .1 .0) })),
+    λ e. let h = chain-passed checks e in let s = formed (h .1 .1 .0) in (
+      sized-to n out (h .0, (h .1 .0, tt)),
+      (tree, s, record { once = stands-exactly n tree .0 (h .1 .1 .1 .0); paired = paired-exactly s .0 (h .1 .1 .1 .1 .0) }),
+    ),
     λ h. let s = sized-from n out (h .0) in let t = tree-of (h .1 .1) in
-        passed-chain checks accepted (s .0, (s .1 .0, (t .0, (
-        subst (λ (u : Tree). check18 n u .fault ≡ nowhere) (sym (t .1)) (stands-exactly n (h .1 .0) .1 (h .1 .2 .once)), (
-        subst (λ (u : Tree). checkLone (length l) u .fault ≡ nowhere) (sym (t .1)) (paired-exactly (h .1 .1) .1 (h .1 .2 .paired)), tt))))),
+        passed-chain checks accepted (
+          s .0,
+          (
+            s .1 .0,
+            (
+              t .0,
+              (
+                subst (λ (u : Tree). check18 n u .fault ≡ nowhere) (sym (t .1)) (stands-exactly n (h .1 .0) .1 (h .1 .2 .once)),
+                (
+                  subst (λ (u : Tree). checkLone (length l) u .fault ≡ nowhere) (sym (t .1)) (paired-exactly (h .1 .1) .1 (h .1 .2 .paired)),
+                  tt,
+                ),
+              ),
+            ),
+          ),
+        ),
   )
 
 -- ---- how far a place can be

@@ -45,13 +45,14 @@ written-tells n r ok w =
     let h = root-at n r ok in
     let few = pairs-few n r ok v in
     let m = meant n r ok w (nodes r) mostOpen v 0 (h .1) (omega arith) (omega (arith, ok .high, ok .most)) in record {
-    tree = m .tree;
-    text = Text.a-text (nodeText (nodes r) n r w v) [] (m .tree) (m .form) none;
-    once = λ x. m .stands x ∙ ap (λ (b : Bool). cond b 1 0) (true-eq (shows n r v x) (ltb x n) (λ e. and-l (ltb x n) (meets (nodes r) r v x) e)
-      (λ e. rw e (root-above n r ok x (omega (arith, ltb-true x n e, ok .low)))));
-    same = λ g. true-eq (member g (groupsOf n (m .tree))) (member g (groups n r)) (m .sound g)
-      (λ e. let t = in-groups n r g e in subst (λ (z : Group). In z (groupsOf n (m .tree))) (t .2) (m .whole (t .0) (t .1) (root-above n r ok (t .0) (t .1))));
-    paired = m .paired }
+      tree = m .tree;
+      text = Text.a-text (nodeText (nodes r) n r w v) [] (m .tree) (m .form) none;
+      once = λ x. m .stands x ∙ ap (λ (b : Bool). cond b 1 0) (true-eq (shows n r v x) (ltb x n) (λ e. and-l (ltb x n) (meets (nodes r) r v x) e)
+          (λ e. rw e (root-above n r ok x (omega (arith, ltb-true x n e, ok .low)))));
+      same = λ g. true-eq (member g (groupsOf n (m .tree))) (member g (groups n r)) (m .sound g)
+          (λ e. let t = in-groups n r g e in subst (λ (z : Group). In z (groupsOf n (m .tree))) (t .2) (m .whole (t .0) (t .1) (root-above n r ok (t .0) (t .1))));
+      paired = m .paired;
+    }
 
 -- a tree with the groups of a row is read as the row renumbered
 pub row-in : (n : ℕ) (r : List ℕ) (t : Tree) → ((g : Group) → member g (groupsOf n t) ≡ member g (groups n r)) → rowIn n t ≡ renumbered n r
@@ -67,8 +68,10 @@ pub tells-read : (n : ℕ) (r l out : List ℕ) → Valid n r → Tells n r l �
     → reading n l out ≡ record { verdict = accepted; words = renumbered n r }
 unfolding reading
 tells-read n r l out ok h e =
-    let a = reading-accepts n l out .1 (record { least = ok .least; most = ok .most; words = e },
-      (h .tree, h .text, record { once = h .once; paired = λ q s. none-paired q (rw (h .paired) at s) })) in
+    let a = reading-accepts n l out .1 (
+      record { least = ok .least; most = ok .most; words = e },
+      (h .tree, h .text, record { once = h .once; paired = λ q s. none-paired q (rw (h .paired) at s) }),
+    ) in
     outcome-of (readChecks n (parsed l) (length l) out) a
     ∙ ap leaves (ap (λ (o : Parse). rowIn n (treeIn o)) (complete (h .text)) ∙ row-in n r (h .tree) (h .same))
   where

@@ -102,5 +102,6 @@ filled bytes text = bytes ++ drop (length bytes) text
 -- what writing answers, and the buffer that it writes: it is left as it was by a refusal (RULES 7.4, 14.12)
 unfoldable pub writing : ℕ → List ℕ → Wanted → List ℕ → Outcome
 writing n r w text = record {
-    verdict = writeChecks n r w text ⊳ wrote (length (written n r w));
-    words = cond (isAccepted (writeChecks n r w text ⊳ accepted)) (filled (written n r w) text) text }
+  verdict = writeChecks n r w text ⊳ wrote (length (written n r w));
+  words = cond (isAccepted (writeChecks n r w text ⊳ accepted)) (filled (written n r w) text) text;
+}

@@ -71,8 +71,15 @@ length-open (Open.bracket k q w m a e g b h o) =
 close-by : {k : Stack} {q : ℕ} {w : List ℕ} → Open (opened k q) w → (v : List ℕ) (f : Forest) (d : ℕ) → suc (depth k) + d ≡ mostOpen → Subtrees d (suc q) v f
     → (s m : List ℕ) (μ : Mark) → Support s μ → Length m → Fits k (w ++ (v ++ (41 ∷ (s ++ m)))) (pair q f μ)
 close-by (Open.bracket k q w l a e g b h o) v f d n u s m μ x y =
-    record { base = l; word = a ++ (40 ∷ (v ++ (41 ∷ (s ++ m)))); split = rw e (simp append-assoc); opens = o; d = suc d; deep = omega arith;
-      sub = Subtree.a-pair d (length l) q (a ++ (40 ∷ (v ++ (41 ∷ (s ++ m))))) a v s m f μ refl g b u x y }
+    record {
+      base = l;
+      word = a ++ (40 ∷ (v ++ (41 ∷ (s ++ m))));
+      split = rw e (simp append-assoc);
+      opens = o;
+      d = suc d;
+      deep = omega arith;
+      sub = Subtree.a-pair d (length l) q (a ++ (40 ∷ (v ++ (41 ∷ (s ++ m))))) a v s m f μ refl g b u x y;
+    }
 
 -- the subtrees of an open bracket, with one more
 pub record Holds (k : Stack) (q : ℕ) (l : List ℕ) (f : Forest) : Type 0 where
@@ -87,15 +94,29 @@ pub record Holds (k : Stack) (q : ℕ) (l : List ℕ) (f : Forest) : Type 0 wher
 holds-first : (k : Stack) (q : ℕ) (l : List ℕ) (t : Tree) → Fits (opened k q) l t → Holds k q l (only t)
 unfolding depth
 holds-first k q l t f =
-    record { base = f .base; word = f .word; split = f .split; opens = f .opens; d = f .d; deep = f .deep;
-      subs = Subtrees.one (f .d) (suc q) (f .word) t (subst (λ (i : ℕ). Subtree (f .d) i (f .word) t) (length-open (f .opens)) (f .sub)) }
+    record {
+      base = f .base;
+      word = f .word;
+      split = f .split;
+      opens = f .opens;
+      d = f .d;
+      deep = f .deep;
+      subs = Subtrees.one (f .d) (suc q) (f .word) t (subst (λ (i : ℕ). Subtree (f .d) i (f .word) t) (length-open (f .opens)) (f .sub));
+    }
 
 holds-later-at : {k : Stack} {q : ℕ} {g : Forest} {w : List ℕ} → Open (later k q g) w → (v : List ℕ) (t : Tree) (d : ℕ) → suc (depth k) + d ≡ mostOpen → Subtree d (length w) v t → Holds k q (w ++ v) (more g t)
 holds-later-at (Open.commaed k q f w l m c e n o s) v t d h u =
     let z : d ≡ c = omega arith in
     let y : length w ≡ suc (suc q + length m) = ap length e ∙ length-append l (m ++ (44 ∷ [])) ∙ ap (length l +_) (length-append m (44 ∷ [])) ∙ (let y′ = length-open o in let y″ : length l + (length m + 1) ≡ suc (suc q + length m) = omega arith in y″) in
-    record { base = l; word = m ++ (44 ∷ v); split = rw e (simp append-assoc); opens = o; d = c; deep = n;
-      subs = Subtrees.parted c (suc q) (m ++ (44 ∷ v)) m v f t refl s (subst (λ (i : ℕ). Subtree c i v t) y (subst (λ (i : ℕ). Subtree i (length w) v t) z u)) }
+    record {
+      base = l;
+      word = m ++ (44 ∷ v);
+      split = rw e (simp append-assoc);
+      opens = o;
+      d = c;
+      deep = n;
+      subs = Subtrees.parted c (suc q) (m ++ (44 ∷ v)) m v f t refl s (subst (λ (i : ℕ). Subtree c i v t) y (subst (λ (i : ℕ). Subtree i (length w) v t) z u));
+    }
 
 holds-later : (k : Stack) (q : ℕ) (g : Forest) (l : List ℕ) (t : Tree) → Fits (later k q g) l t → Holds k q l (more g t)
 unfolding depth
@@ -110,8 +131,13 @@ holds-closed k q l f h s m μ x y =
 holds-comma : (k : Stack) (q : ℕ) (l : List ℕ) (f : Forest) → Holds k q l f → Before (want (later k q f)) (l ++ (44 ∷ []))
 unfolding Before
 holds-comma k q l f h =
-    record { base = l ++ (44 ∷ []); gap = []; split = sym (append-nil (l ++ (44 ∷ []))); blanks = none;
-      opens = Open.commaed k q f (l ++ (44 ∷ [])) (h .base) (h .word) (h .d) (rw (h .split) (simp append-assoc)) (h .deep) (h .opens) (h .subs) }
+    record {
+      base = l ++ (44 ∷ []);
+      gap = [];
+      split = sym (append-nil (l ++ (44 ∷ [])));
+      blanks = none;
+      opens = Open.commaed k q f (l ++ (44 ∷ [])) (h .base) (h .word) (h .d) (rw (h .split) (simp append-assoc)) (h .deep) (h .opens) (h .subs);
+    }
 
 -- "to" determines the state
 to-inj : (s s′ : State) → to s ≡ to s′ → s ≡ s′
@@ -338,8 +364,15 @@ all-snoc t b e (and c l d a) = and c (l ++ (b ∷ [])) d (all-snoc t b e a)
 -- a sample from where a subtree has to come
 leaf-fits : (k : Stack) (l v m : List ℕ) (x : ℕ) → Wants k l → Sample v x → Length m → Fits k (l ++ (v ++ m)) (leaf x)
 leaf-fits k l v m x h s y =
-    record { base = h .base; word = h .gap ++ (v ++ m); split = rw (h .split) (simp append-assoc); opens = h .opens; d = mostOpen - depth k; deep = (let z = open-deep (h .opens) in omega arith);
-      sub = Subtree.a-sample (mostOpen - depth k) (length (h .base)) (h .gap ++ (v ++ m)) (h .gap) v m x refl (h .blanks) s y }
+    record {
+      base = h .base;
+      word = h .gap ++ (v ++ m);
+      split = rw (h .split) (simp append-assoc);
+      opens = h .opens;
+      d = mostOpen - depth k;
+      deep = (let z = open-deep (h .opens) in omega arith);
+      sub = Subtree.a-sample (mostOpen - depth k) (length (h .base)) (h .gap ++ (v ++ m)) (h .gap) v m x refl (h .blanks) s y;
+    }
 
 nought-keeps : (k : Stack) (l : List ℕ) → Wants k l → Before (sample k 0 0) (l ++ (48 ∷ []))
 unfolding Before valueAfter
@@ -359,8 +392,13 @@ unfolding Before
 entered-keeps k l s′ false d h e = never e
 entered-keeps k l s′ true d h e =
     come (want (opened k (length l))) s′ (l ++ (40 ∷ [])) e
-    (record { base = l ++ (40 ∷ []); gap = []; split = sym (append-nil (l ++ (40 ∷ []))); blanks = none;
-      opens = Open.bracket k (length l) (l ++ (40 ∷ [])) (h .base) (h .gap) (rw (h .split) (simp append-assoc)) (ap length (h .split) ∙ length-append (h .base) (h .gap)) (h .blanks) (ltb-true (depth k) mostOpen d) (h .opens) })
+    (record {
+      base = l ++ (40 ∷ []);
+      gap = [];
+      split = sym (append-nil (l ++ (40 ∷ [])));
+      blanks = none;
+      opens = Open.bracket k (length l) (l ++ (40 ∷ [])) (h .base) (h .gap) (rw (h .split) (simp append-assoc)) (ap length (h .split) ∙ length-append (h .base) (h .gap)) (h .blanks) (ltb-true (depth k) mostOpen d) (h .opens);
+    })
 
 keep-want : (k : Stack) (l : List ℕ) (b : ℕ) (s′ : State) → Before (want k) l → step (want k) (length l) (kindOf b) ≡ to s′ → Before s′ (l ++ (b ∷ []))
 unfolding Before step entered

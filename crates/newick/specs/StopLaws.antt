@@ -47,14 +47,15 @@ stops-first l q e =
       within = let z = ap length (h .split) ∙ length-append (h .before) (h .after) in omega (arith, h .place);
       goes = (h .more, (h .goes .tree, sound (take q l ++ h .more) (h .goes .tree) (rw p (h .goes .read))));
       never = never-at l q h (h .after) refl;
-      early = λ f. stops-not (parsed l) (f .0) q e (complete (f .1)) }
+      early = λ f. stops-not (parsed l) (f .0) q e (complete (f .1));
+    }
 
 -- what goes on from a longer part of a text goes on from a shorter one
 shorter : (l : List ℕ) (q r : ℕ) → q ≤ r → Begins (take r l) → Begins (take q l)
 shorter l q r h x =
     let e : take q l ++ (drop q (take r l) ++ x .0) ≡ take r l ++ x .0 =
-      sym (append-assoc (take q l) (drop q (take r l)) (x .0)) ∙ ap (λ (m : List ℕ). (m ++ drop q (take r l)) ++ x .0) (sym (take-take q r l h))
-      ∙ ap (_++ x .0) (take-append-drop q (take r l)) in
+    sym (append-assoc (take q l) (drop q (take r l)) (x .0)) ∙ ap (λ (m : List ℕ). (m ++ drop q (take r l)) ++ x .0) (sym (take-take q r l h))
+    ∙ ap (_++ x .0) (take-append-drop q (take r l)) in
     (drop q (take r l) ++ x .0, subst OfForm (sym e) (x .1))
 
 not-before : (l : List ℕ) (q r : ℕ) → FirstStop l q → FirstStop l r → q < r → ⊥

@@ -73,9 +73,13 @@ module _ (n : ℕ) (r : List ℕ) (w : Wanted) (text : List ℕ) where
 
   passed-from : Valid n r → Fitting n w → length bytes ≤ length text → Passed checks
   unfolding writeChecks judgeChecks
-  passed-from ok f h = let p = valid-passed n r ok in
-      (p .0, (wanted-from n r w (ok .words) f,
-      passed-append (rowChecks n r) (checkRoom bytes text ∷ []) (p .1 .1) (line-pass 3 (ltb (length text) (length bytes)) (le-ltb (length text) (length bytes) h), tt)))
+  passed-from ok f h = let p = valid-passed n r ok in (
+    p .0,
+    (
+      wanted-from n r w (ok .words) f,
+      passed-append (rowChecks n r) (checkRoom bytes text ∷ []) (p .1 .1) (line-pass 3 (ltb (length text) (length bytes)) (le-ltb (length text) (length bytes) h), tt),
+    ),
+  )
 
   -- it answers a length exactly if the row is valid, a support row that is wanted has 2n words, and the text, which is so long, fits
   pub writing-accepts : (k : ℕ) → (writing n r w text .verdict ≡ wrote k)
@@ -111,9 +115,11 @@ module _ (n : ℕ) (r : List ℕ) (w : Wanted) (text : List ℕ) where
     -- the answer is the length of the text, and behind it every byte stays (RULES 14.12)
     pub writing-bytes : (k ≡ length (written n r w)) × (writing n r w text .words ≡ written n r w ++ drop k text)
     unfolding writing
-    writing-bytes = let h = writing-accepts k .0 e in
-        (h .2, ap (λ (v : Verdict). cond (isAccepted v) (filled bytes text) text) (passed-chain checks accepted (passed-from (h .0) (h .1) (h .3)))
-        ∙ ap (λ (i : ℕ). bytes ++ drop i text) (sym (h .2)))
+    writing-bytes = let h = writing-accepts k .0 e in (
+      h .2,
+      ap (λ (v : Verdict). cond (isAccepted v) (filled bytes text) text) (passed-chain checks accepted (passed-from (h .0) (h .1) (h .3)))
+          ∙ ap (λ (i : ℕ). bytes ++ drop i text) (sym (h .2)),
+    )
 
     -- the bytes of the text are those up to the answer
     pub writing-front : take k (writing n r w text .words) ≡ written n r w

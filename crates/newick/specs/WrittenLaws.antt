@@ -84,22 +84,30 @@ module _ (n : ℕ) (r : List ℕ) where
   meant-only : (c d p : ℕ) (l : List ℕ) → Meant c d p l → MeantIn (c ∷ []) d p l
   unfolding samplesIn groupsIn lonelyIn
   meant-only c d p l h = record {
-      forest = only (h .tree); form = Subtrees.one d p l (h .tree) (h .form); stands = λ x. h .stands x ∙ sym (count-one (λ y. shows y x) c); sound = h .sound;
-      whole = λ u k e. h .whole u k (found-one (λ y. meets (nodes r) r y u) c e); paired = h .paired; several = λ e. absurd (omega arith) }
+    forest = only (h .tree);
+    form = Subtrees.one d p l (h .tree) (h .form);
+    stands = λ x. h .stands x ∙ sym (count-one (λ y. shows y x) c);
+    sound = h .sound;
+    whole = λ u k e. h .whole u k (found-one (λ y. meets (nodes r) r y u) c e);
+    paired = h .paired;
+    several = λ e. absurd (omega arith);
+  }
 
   meant-next : (cs : List ℕ) (c d p : ℕ) (l k : List ℕ) → MeantIn cs d p l → Meant c d (suc (p + length l)) k → MeantIn (cs ++ (c ∷ [])) d p (l ++ (44 ∷ k))
   unfolding samplesIn groupsIn lonelyIn lone
   meant-next cs c d p l k h g = record {
-      forest = more (h .forest) (g .tree);
-      form = Subtrees.parted d p (l ++ (44 ∷ k)) l k (h .forest) (g .tree) refl (h .form) (g .form);
-      stands = λ x. weigh-append (λ y. 1) (eqb x) (samplesIn (h .forest)) (samples (g .tree))
+    forest = more (h .forest) (g .tree);
+    form = Subtrees.parted d p (l ++ (44 ∷ k)) l k (h .forest) (g .tree) refl (h .form) (g .form);
+    stands = λ x. weigh-append (λ y. 1) (eqb x) (samplesIn (h .forest)) (samples (g .tree))
         ∙ (let z : times x (samplesIn (h .forest)) + times x (samples (g .tree)) ≡ count (λ y. shows y x) cs + count (λ y. shows y x) (c ∷ []) = omega (arith, h .stands x, g .stands x, count-one (λ y. shows y x) c) in z)
         ∙ sym (weigh-append (λ y. 1) (λ y. shows y x) cs (c ∷ []));
-      sound = λ x m. ⊎-elim (h .sound x) (g .sound x) (or-cases (member x (groupsIn n (h .forest))) (member x (groupsOf n (g .tree))) (sym (member-append x (groupsIn n (h .forest)) (groupsOf n (g .tree))) ∙ m));
-      whole = λ u j e. member-append (groupAt n r u) (groupsIn n (h .forest)) (groupsOf n (g .tree))
+    sound = λ x m. ⊎-elim (h .sound x) (g .sound x) (or-cases (member x (groupsIn n (h .forest))) (member x (groupsOf n (g .tree))) (sym (member-append x (groupsIn n (h .forest)) (groupsOf n (g .tree))) ∙ m));
+    whole = λ u j e. member-append (groupAt n r u) (groupsIn n (h .forest)) (groupsOf n (g .tree))
         ∙ one-of (member (groupAt n r u) (groupsIn n (h .forest))) (member (groupAt n r u) (groupsOf n (g .tree))) (count (λ y. meets (nodes r) r y u) cs) (count (λ y. meets (nodes r) r y u) (c ∷ []))
-          (h .whole u j) (λ i. g .whole u j (found-one (λ y. meets (nodes r) r y u) c i)) (omega (arith, weigh-append (λ y. 1) (λ y. meets (nodes r) r y u) cs (c ∷ [])));
-      paired = rw (h .paired, g .paired) refl; several = λ e q. refl }
+        (h .whole u j) (λ i. g .whole u j (found-one (λ y. meets (nodes r) r y u) c i)) (omega (arith, weigh-append (λ y. 1) (λ y. meets (nodes r) r y u) cs (c ∷ [])));
+    paired = rw (h .paired, g .paired) refl;
+    several = λ e q. refl;
+  }
     where
       one-of : (a b : Bool) (i j : ℕ) → (1 ≤ i → a ≡ true) → (1 ≤ j → b ≡ true) → 1 ≤ i + j → a || b ≡ true
       one-of a b zero j f e s = or-r a b (e (omega arith))
@@ -137,12 +145,13 @@ module _ (n : ℕ) (r : List ℕ) (ok : Valid n r) where
   unfolding samples groupsOf lonely
   meant-leaf s d p h =
       let e = group-same n r s (s ∷ []) (λ x. stands-leaf s x h) in record {
-      tree = leaf s;
-      form = Subtree.a-sample d p (decimal s) [] (decimal s) [] s (sym (append-nil (decimal s))) none (decimal-sample s (omega (arith, ok .most))) no-length;
-      stands = λ x. stands-leaf s x h;
-      sound = λ g m. ⊎-elim (λ q. subst (λ (z : Group). In z (groups n r)) (sym (q ∙ e)) (groups-in n r s (omega (arith, ok .low)))) (λ q. absurd (in-none g q)) (in-cases g (groupOf n (s ∷ [])) [] m);
-      whole = λ u k a. rw (no-leaf-above n r (valid-rooted n r ok) s u h k a, e) (in-head (groupAt n r s) []);
-      paired = refl }
+        tree = leaf s;
+        form = Subtree.a-sample d p (decimal s) [] (decimal s) [] s (sym (append-nil (decimal s))) none (decimal-sample s (omega (arith, ok .most))) no-length;
+        stands = λ x. stands-leaf s x h;
+        sound = λ g m. ⊎-elim (λ q. subst (λ (z : Group). In z (groups n r)) (sym (q ∙ e)) (groups-in n r s (omega (arith, ok .low)))) (λ q. absurd (in-none g q)) (in-cases g (groupOf n (s ∷ [])) [] m);
+        whole = λ u k a. rw (no-leaf-above n r (valid-rooted n r ok) s u h k a, e) (in-head (groupAt n r s) []);
+        paired = refl;
+      }
 
   -- ---- a pair of brackets
 
@@ -158,12 +167,13 @@ module _ (n : ℕ) (r : List ℕ) (ok : Valid n r) where
   meant-pair v d p l s μ a h k z =
       let st : (x : ℕ) → times x (samplesIn (k .forest)) ≡ cond (shows n r v x) 1 0 = λ x. k .stands x ∙ shows-count v x a h in
       let e = group-same n r v (samplesIn (k .forest)) st in record {
-      tree = pair p (k .forest) μ;
-      form = Subtree.a-pair d p p (40 ∷ (l ++ (41 ∷ s))) [] l s [] (k .forest) μ (rw (append-nil s) refl) (sym (add-zero p)) none (k .form) z no-length;
-      stands = st;
-      sound = λ g m. ⊎-elim (λ q. subst (λ (z : Group). In z (groups n r)) (sym (q ∙ e)) (groups-in n r v h)) (k .sound g) (in-cases g (groupOf n (samplesIn (k .forest))) (groupsIn n (k .forest)) m);
-      whole = λ u j b. below u j b e (decide (eqb u v));
-      paired = rw (k .paired, k .several (omega (arith, length-child n r ok v, ok .two v a h)) p) refl }
+        tree = pair p (k .forest) μ;
+        form = Subtree.a-pair d p p (40 ∷ (l ++ (41 ∷ s))) [] l s [] (k .forest) μ (rw (append-nil s) refl) (sym (add-zero p)) none (k .form) z no-length;
+        stands = st;
+        sound = λ g m. ⊎-elim (λ q. subst (λ (z : Group). In z (groups n r)) (sym (q ∙ e)) (groups-in n r v h)) (k .sound g) (in-cases g (groupOf n (samplesIn (k .forest))) (groupsIn n (k .forest)) m);
+        whole = λ u j b. below u j b e (decide (eqb u v));
+        paired = rw (k .paired, k .several (omega (arith, length-child n r ok v, ok .two v a h)) p) refl;
+      }
     where
       below : (u : ℕ) → u < nodes r → Above r v u → groupOf n (samplesIn (k .forest)) ≡ groupAt n r v → (eqb u v ≡ true) ⊎ (eqb u v ≡ false)
           → In (groupAt n r u) (groupOf n (samplesIn (k .forest)) ∷ groupsIn n (k .forest))

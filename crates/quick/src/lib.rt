@@ -7,7 +7,7 @@ ghost use Rattle.judge.specs.Verdicts.{verdict};
 
 mod branching;
 mod climbing;
-mod tally;
+pub mod tally;
 
 use branching::branching;
 use climbing::climbing;

@@ -18,9 +18,10 @@ fn raise(counts: &mut Table, k: usize)
 }
 
 // Counts the words from a to below b, each at its own entry; a word that has none, as the root's mark, is passed over.
-pub(crate) fn tally(words: &[u16], a: usize, b: usize, counts: &mut Table)
+pub fn tally(words: &[u16], a: usize, b: usize, counts: &mut Table)
     requires { ⌜ (b ≤ length (now words)) × (b ≤ tableWords) × (now counts ≡ zeros tableWords) ⌝ }
-    ensures { λ _. ⌜ Tabled (standing (now (words .entry)) a b) 0 tableWords (now (counts .exit)) ⌝ }
+    ensures counted { λ _. ⌜ Tabled (standing (now (words .entry)) a b) 0 tableWords (now (counts .exit)) ⌝ }
+    ensures whole { λ _. ⌜ length (now (counts .exit)) ≡ tableWords ⌝ }
 {
     let mut u = a;
     while u < b {

@@ -1,4 +1,5 @@
 // Renumbering a row.
+mod numbers;
 mod renumbering;
 mod standard;
 

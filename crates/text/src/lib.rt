@@ -1,7 +1,7 @@
 // The lines that the listing program writes (RULES 9.4 to 9.7), as functions on slices of bytes.
+mod fields;
 mod lines;
 mod node;
-mod fields;
 
 pub use lines::LINE_BYTES;
 pub use lines::put_head;

@@ -6,10 +6,10 @@ ghost use Rattle.ascii.specs.Decimal.{decimal};
 ghost use Rattle.text.specs.Lines.{lineOf, headLine, refusalLine};
 ghost use Rattle.put.specs.Writing.{Written};
 ghost use Rattle.text.specs.Room.{fieldBytes, lineBytes};
-use put::put_byte;
-use put::put_bytes;
 use crate::fields::put_fields;
 use file::VERSION;
+use put::put_byte;
+use put::put_bytes;
 
 // A buffer of this many bytes holds any line.
 pub const LINE_BYTES: usize = 4096;

@@ -13,14 +13,14 @@ ghost use Rattle.text.specs.Lines.{space, spaced, parentField, samplesOf
 ghost use Rattle.text.specs.Marks.{Marked, parentMarked, markCount};
 ghost use Rattle.put.specs.Writing.{Put, Written};
 ghost use Rattle.text.specs.Room.{fieldBytes, sampleBytes, lineBytes};
-use put::put_byte;
-use put::put_bytes;
 use crate::fields::put_field;
-use put::put_number;
 use judge::ROOT_MARK;
 use judge::nodes;
 use judge::parent;
 use judge::wide;
+use put::put_byte;
+use put::put_bytes;
+use put::put_number;
 
 // A mark for each node: there are fewer than twice 512.
 const MARKS: usize = 1024;

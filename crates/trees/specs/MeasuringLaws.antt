@@ -33,15 +33,15 @@ module _ (n : ℕ) (r : List ℕ) (ok : Valid n r) (x : ℕ) (h : x < nodes r) w
   not-mark : eqb x rootMark ≡ false
   not-mark = no-mark n r (valid-rooted n r ok) x h
 
-  way-here : onWay r x x ≡ true
+  pub way-here : onWay r x x ≡ true
   way-here = rw (not-mark, meets-refl r (nodes r) x)
 
-  way-past : onWay r x (parent r x) ≡ false
+  pub way-past : onWay r x (parent r x) ≡ false
   way-past = not-yes _ (λ e. let p = not-true (childOf r rootMark x) (and-l (not (childOf r rootMark x)) (meets (nodes r) r x (parent r x)) e) in
       no-loop r (suc (nodes r)) (nodes r) (nodes r) x (parent r x) (omega arith) (and-r (not (childOf r rootMark x)) _ e) refl p
       (ok .reach (parent r x) (parent-range n r ok x h p .1)))
 
-  way-other : (v : ℕ) → (v ≡ x → ⊥) → onWay r v (parent r x) ≡ onWay r v x
+  pub way-other : (v : ℕ) → (v ≡ x → ⊥) → onWay r v (parent r x) ≡ onWay r v x
   way-other v d = rw not-mark (true-eq _ _ longer shorter)
     where
       longer : onWay r v (parent r x) ≡ true → meets (nodes r) r v x ≡ true

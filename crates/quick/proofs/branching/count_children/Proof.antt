@@ -17,7 +17,7 @@ tally-requires c κs =
     (omega (arith, pre .0 .words), omega (arith, pre .0 .fits), pre .1)
 
 returns : tie.Need-returns
-returns c = tabled-children _ _ _ (c .before .before .nodes .ensures) (c .tally .ensures)
+returns c = tabled-children _ _ _ (c .before .before .nodes .ensures) (c .tally .ensures .0)
 
 pub count-children-spec : {M : Type 1} → statement M
 count-children-spec = tie.close (tie.spec nodes-requires add-tally tally-requires returns)

@@ -47,7 +47,7 @@ loop-again c =
     (c .if1 .came)
 
 returns : tie.Need-returns Inv-loop μ-loop
-returns c = tally-end _ _ _ _ _ (c .before .loop .inv) (omega arith)
+returns c = let l = c .before .loop in (tally-end _ _ _ _ _ (l .inv) (omega arith), l .inv .words)
 
 pub tally-spec : {M : Type 1} → statement M
 tally-spec =

@@ -1,0 +1,5 @@
+pub mod Handing
+pub mod CountLaws
+pub mod PlacingLaws
+pub mod StretchLaws
+pub mod HandingLaws
