@@ -147,7 +147,7 @@ uint64_t arb_report(const uint16_t *study, size_t study_length, size_t p, uint16
 uint64_t arb_judge(size_t n, const uint16_t *row, size_t row_length);
 
 /* Renumbering: writes the same tree in standard numbering to `out`, 2n words. `row` is not written.
-   Refusals: 1, 3 for either buffer, 5 to 10. Stack: 7,168 bytes. */
+   Refusals: 1, 3 for either buffer, 5 to 10. Stack: 9,216 bytes. */
 uint64_t arb_renumber(size_t n, const uint16_t *row, size_t row_length, uint16_t *out, size_t out_length);
 
 /* Comparing: how many groups both rows have, the first alone, and the second alone (RULES 8). Groups of more than one sample and
