@@ -21,7 +21,8 @@ use Rattle.newick.specs.ListedLaws.{count-unique, count-filtered, length
 use Rattle.newick.specs.FilterLaws.{filter-append, one-long, in-gather}
 use Rattle.newick.specs.ChildLaws.{lowest-differ, root-at}
 
-rises-append : (key : ℕ → ℕ) (xs ys : List ℕ) → RisesBy key xs → RisesBy key ys → ((x y : ℕ) → List·Memᴰ x xs → List·Memᴰ y ys → key x < key y)
+rises-append : (key : ℕ → ℕ) (xs ys : List ℕ) → RisesBy key xs → RisesBy key ys
+    → ((x y : ℕ) → List·Memᴰ x xs → List·Memᴰ y ys → key x < key y)
     → RisesBy key (xs ++ ys)
 rises-append key [] ys p q h = q
 rises-append key (x ∷ xs) ys p q h = (
@@ -79,7 +80,8 @@ module _ (n : ℕ) (r : List ℕ) (ok : Valid n r) (v : ℕ) (h : v < nodes r) w
 -- ---- the end of a text
 
 -- the last bracket stands right before the semicolon, with supports and without (RULES 14.11)
-pub written-ends : (n : ℕ) (r : List ℕ) → Valid n r → (w : Wanted) → (l : List ℕ) × (written n r w ≡ l ++ (closingByte ∷ semicolonByte ∷ []))
+pub written-ends : (n : ℕ) (r : List ℕ) → Valid n r → (w : Wanted)
+    → (l : List ℕ) × (written n r w ≡ l ++ (closingByte ∷ semicolonByte ∷ []))
 unfolding written nodeText
 written-ends n r ok w = go (nodes r) (omega (arith, ok .low))
   where
@@ -94,4 +96,8 @@ written-ends n r ok w = go (nodes r) (omega (arith, ok .low))
 
     go : (f : ℕ) → 0 < f → (l : List ℕ) × (nodeText f n r w v ++ (semicolonByte ∷ []) ≡ l ++ (closingByte ∷ semicolonByte ∷ []))
     go zero i = absurd (omega arith)
-    go (suc f) i = (inside f, rw (le-ltb v n (root-at n r ok .0), unmarked) (append-assoc (inside f) (closingByte ∷ []) (semicolonByte ∷ [])))
+    go (suc f) i = (
+      inside f,
+      rw (le-ltb v n (root-at n r ok .0), unmarked)
+          (append-assoc (inside f) (closingByte ∷ []) (semicolonByte ∷ [])),
+    )

@@ -29,7 +29,12 @@ module _ (n : ℕ) (r : List ℕ) (ok : Valid n r) where
   node-in : (u : ℕ) → u < nodes r → List·Memᴰ u (byLowest n r)
   node-in u h =
       let w = weigh-found (λ y. 1) (λ y. eqb y u) (byLowest n r)
-      (omega (arith, count-nodes (λ y. eqb y u), weigh-one (λ y. 1) (λ y. eqb y u) (range 0 (nodes r)) u (range-in 0 (nodes r) u zero-le h) (eq-eqb u u refl))) in
+      (omega (
+        arith,
+        count-nodes (λ y. eqb y u),
+        weigh-one (λ y. 1) (λ y. eqb y u) (range 0 (nodes r)) u
+            (range-in 0 (nodes r) u zero-le h) (eq-eqb u u refl),
+      )) in
       subst (λ (y : ℕ). List·Memᴰ y (byLowest n r)) (eqb-true (w .0) u (w .2)) (w .1)
 
   in-node : (u : ℕ) → List·Memᴰ u (byLowest n r) → u < nodes r

@@ -12,12 +12,14 @@ use Rattle.trees.specs.BoolLaws.{decide, and-both}
 use Rattle.ascii.specs.Decimal.{digit, decimal, valueAfter}
 use Rattle.ascii.specs.DecimalLaws.{by-tenths, decimal-small, decimal-step, value-decimal, decimal-full, decimal-front, decimal-long}
 use Rattle.newick.specs.Tree.Mark.{marked}
+use Rattle.newick.specs.Bytes.{nineByte, noughtByte}
 use Rattle.newick.specs.Bytes.{isDigit}
 use Rattle.newick.specs.Grammar.{All, Sample, Support}
 use Rattle.newick.specs.Grammar.All.{none, and}
 
 is-digit : (d : ℕ) → d < 10 → isDigit (digit d) ≡ true
-is-digit d h = and-both (leb 48 (48 + d)) (leb (48 + d) 57) (le-leb 48 (48 + d) (omega arith)) (le-leb (48 + d) 57 (omega arith))
+is-digit d h = and-both (leb noughtByte (noughtByte + d)) (leb (noughtByte + d) nineByte)
+    (le-leb noughtByte (noughtByte + d) (omega arith)) (le-leb (noughtByte + d) nineByte (omega arith))
 
 pub all-snoc : (t : ℕ → Bool) {l : List ℕ} (b : ℕ) → t b ≡ true → All t l → All t (l ++ (b ∷ []))
 all-snoc t b e none = and b [] e none
@@ -36,12 +38,20 @@ pub record Numeral (ds : List ℕ) (x : ℕ) : Type 0 where
   pub split : ds ≡ head ∷ rest
   pub one : isDigit head ≡ true
   pub all : All isDigit rest
-  pub worth : valueAfter (head - 48) rest ≡ x
+  pub worth : valueAfter (head - noughtByte) rest ≡ x
 
 numeral-of : (ds : List ℕ) (x : ℕ) → All isDigit ds → 1 ≤ length ds → valueAfter 0 ds ≡ x → Numeral ds x
 unfolding valueAfter
 numeral-of ds x none h e = absurd (omega arith)
-numeral-of ds x (and b l d a) h e = record { head = b; rest = l; split = refl; one = d; all = a; worth = ap (λ (z : ℕ). valueAfter z l) (let z : b - 48 ≡ 10 * 0 + (b - 48) = omega arith in z) ∙ e }
+numeral-of ds x (and b l d a) h e = record {
+  head = b;
+  rest = l;
+  split = refl;
+  one = d;
+  all = a;
+  worth =
+      ap (λ (z : ℕ). valueAfter z l) (let z : b - noughtByte ≡ 10 * 0 + (b - noughtByte) = omega arith in z) ∙ e;
+}
 
 pub decimal-numeral : (x : ℕ) → Numeral (decimal x) x
 decimal-numeral x = numeral-of (decimal x) x (decimal-all x) (decimal-full x) (value-decimal x)
@@ -50,7 +60,8 @@ decimal-numeral x = numeral-of (decimal x) x (decimal-all x) (decimal-full x) (v
 pub decimal-support : (x : ℕ) → Support (decimal x) (marked x)
 decimal-support x =
     let d = decimal-numeral x in
-    subst (λ (y : ℕ). Support (decimal x) (marked y)) (d .worth) (rw (d .split) (Support.supported [] (d .head) (d .rest) none (d .one) (d .all)))
+    subst (λ (y : ℕ). Support (decimal x) (marked y)) (d .worth)
+    (rw (d .split) (Support.supported [] (d .head) (d .rest) none (d .one) (d .all)))
 
 -- a decimal of five digits at most is a sample
 pub decimal-sample : (x : ℕ) → x < 100000 → Sample (decimal x) x
@@ -61,5 +72,6 @@ decimal-sample x h = go (decide (eqb x 0))
     go (inr e) =
         let d = decimal-numeral x in
         let l = rw (d .split) at (decimal-long 4 x (omega arith)) in
-        let f : d .head ≡ 48 → ⊥ = λ q. decimal-front x (omega (arith, eqb-false x 0 e)) (rw (d .split) q) in
-        subst (λ (y : ℕ). Sample (decimal x) y) (d .worth) (rw (d .split) (Sample.numeral (d .head) (d .rest) (d .one) f (d .all) (omega arith)))
+        let f : d .head ≡ noughtByte → ⊥ = λ q. decimal-front x (omega (arith, eqb-false x 0 e)) (rw (d .split) q) in
+        subst (λ (y : ℕ). Sample (decimal x) y) (d .worth) (rw (d .split)
+        (Sample.numeral (d .head) (d .rest) (d .one) f (d .all) (omega arith)))

@@ -91,7 +91,8 @@ unfolding valueAfter
 value-small x h [] a k = omega arith
 value-small x h (b ∷ []) (and b₁ l₁ d none) k = omega (arith, digit-range b d)
 value-small x h (b ∷ c ∷ []) (and b₁ l₁ d (and c₁ l₂ e none)) k = omega (arith, digit-range b d, digit-range c e)
-value-small x h (b ∷ c ∷ f ∷ []) (and b₁ l₁ d (and c₁ l₂ e (and f₁ l₃ g none))) k = omega (arith, digit-range b d, digit-range c e, digit-range f g)
+value-small x h (b ∷ c ∷ f ∷ []) (and b₁ l₁ d (and c₁ l₂ e (and f₁ l₃ g none))) k =
+    omega (arith, digit-range b d, digit-range c e, digit-range f g)
 value-small x h (b ∷ c ∷ f ∷ i ∷ []) (and b₁ l₁ d (and c₁ l₂ e (and f₁ l₃ g (and i₁ l₄ j none)))) k =
     omega (arith, digit-range b d, digit-range c e, digit-range f g, digit-range i j)
 value-small x h (b ∷ c ∷ f ∷ i ∷ m ∷ l) a k = absurd (omega arith)
@@ -164,7 +165,11 @@ module _ {l : List ℕ} {t : Tree} (s : Text l t) where
   pub single-exactly : (q : ℕ) → (checkLone (length l) t .fault ≡ at q) ↔ LowestWith (Single t) q
   single-exactly q = (
     λ e. let f = first-lowest (λ x. among x (lonely t)) 0 (length l) q e in
-        record { holds = leb-true 1 (times q (lonely t)) (f .passes); none = λ x h k. omega (arith, leb-false 1 (times x (lonely t)) (f .none x zero-le h)) },
+        record {
+          holds = leb-true 1 (times q (lonely t)) (f .passes);
+          none =
+              λ x h k. omega (arith, leb-false 1 (times x (lonely t)) (f .none x zero-le h));
+        },
     λ f. lowest-first (λ x. among x (lonely t)) 0 (length l) q (record {
       from = zero-le;
       to = single-within s q (f .holds);

@@ -28,7 +28,8 @@ Stands n t x = times x (samples t) ≡ cond (ltb x n) 1 0
 abbrev pub Single : Tree → ℕ → Type 0
 Single t q = 1 ≤ times q (lonely t)
 
--- A tree that is read over n samples: each sample below n stands once and no other, and every pair holds two subtrees or more.
+-- A tree that is read over n samples: each sample below n stands once and no other, and every pair holds two subtrees
+-- or more.
 pub record Readable (n : ℕ) (t : Tree) : Type 0 where
   pub once : (x : ℕ) → Stands n t x
   pub paired : (q : ℕ) → Single t q → ⊥

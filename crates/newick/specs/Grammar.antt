@@ -1,4 +1,5 @@
--- Which texts are of the form, rule by rule (RULES 14.2 to 14.6), and the tree that each means (RULES 14.8). There is no reading in it.
+-- Which texts are of the form, rule by rule (RULES 14.2 to 14.6), and the tree that each means (RULES 14.8). There is
+-- no reading in it.
 use Prim.Native.Nat.{ℕ, suc, _+_, _-_, _≤_}
 use mathlib.Core.Path.{_≡_}
 use mathlib.Core.Bool.{Bool, true}
@@ -53,8 +54,8 @@ pub data Length : List ℕ → Type 0 where
   lengthless : (a : List ℕ) → Blanks a → Length a
   lengthed : (a b c l : List ℕ) → Blanks a → Blanks b → Number l → Blanks c → Length (a ++ (colonByte ∷ (b ++ (l ++ c))))
 
--- The bytes of a subtree of which the first is at place p, with at most d brackets open at once, and its tree; those of the subtrees of a pair,
--- with a comma between each two (RULES 14.2).
+-- The bytes of a subtree of which the first is at place p, with at most d brackets open at once, and its tree; those of
+-- the subtrees of a pair, with a comma between each two (RULES 14.2).
 mutual
   pub data Subtree : ℕ → ℕ → List ℕ → Tree → Type 0 where
     a-sample : (d p : ℕ) (w a l m : List ℕ) (x : ℕ) → w ≡ a ++ (l ++ m) → Blanks a → Sample l x → Length m

@@ -3,6 +3,7 @@ use Prim.Native.Nat.{ℕ, zero, suc, _-_}
 use mathlib.Core.Bool.{Bool, true, false, cond}
 use mathlib.Core.List.{List, [], _∷_}
 use Rattle.ascii.specs.Decimal.{valueAfter}
+use Rattle.newick.specs.Bytes.{noughtByte}
 use Rattle.newick.specs.Tree.{Mark}
 use Rattle.newick.specs.Tree.Mark.{unmarked, marked}
 
@@ -23,4 +24,4 @@ run t (b ∷ l) = cond (t b) (b ∷ run t l) []
 -- the mark that a run of digits makes
 abbrev pub markOf : List ℕ → Mark
 markOf [] = unmarked
-markOf (b ∷ l) = marked (valueAfter (b - 48) l)
+markOf (b ∷ l) = marked (valueAfter (b - noughtByte) l)

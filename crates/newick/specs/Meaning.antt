@@ -1,4 +1,4 @@
--- What a text means over n samples (RULES 14.8): a group for each sample and each pair, and what lines 18 and 10 ask of it.
+-- What a text means over n samples (RULES 14.8): a group for each sample and each pair; what lines 18 and 10 ask of it.
 use Prim.Native.Nat.{ℕ, suc, max}
 use mathlib.Core.List.{List, [], _∷_, _++_}
 use mathlib.Core.Bool.{Bool, cond, not}

@@ -19,4 +19,7 @@ opened-more = refl
 
 -- some text of the form begins with 511 opening brackets, and none with 512 (RULES 14.6)
 pub nesting-exactly : Begins (replicate 511 openingByte) × (Begins (replicate 512 openingByte) → ⊥)
-nesting-exactly = (stop-exactly (replicate 511 openingByte) 511 .0 opened-most .goes, stop-exactly (replicate 512 openingByte) 511 .0 opened-more .never (omega arith))
+nesting-exactly = (
+  stop-exactly (replicate 511 openingByte) 511 .0 opened-most .goes,
+  stop-exactly (replicate 512 openingByte) 511 .0 opened-more .never (omega arith),
+)

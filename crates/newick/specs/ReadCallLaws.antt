@@ -47,7 +47,12 @@ module _ (n : ℕ) (out : List ℕ) where
 
   sized-to : Passed sizes → Sized n out
   sized-to h = let t = samples-exactly n .0 (h .0) in
-      record { least = t .0; most = t .1; words = eqb-true _ _ (not-false _ (line-passes 3 (not (eqb (length out) (rowWords n))) (h .1 .0))) }
+      record {
+        least = t .0;
+        most = t .1;
+        words = eqb-true _ _ (not-false _
+            (line-passes 3 (not (eqb (length out) (rowWords n))) (h .1 .0)));
+      }
 
   sized-from : Sized n out → Passed sizes
   sized-from s = (samples-exactly n .1 (s .least, s .most), (rw (eq-eqb (length out) (rowWords n) (s .words)), tt))
@@ -93,7 +98,8 @@ module _ (n : ℕ) (l out : List ℕ) where
   pub reading-17 : (p : ℕ) → (reading n l out .verdict ≡ refused 17 p) ↔ (Sized n out × FirstStop l p)
   unfolding readChecks textChecks lacks
   reading-17 p = (
-    λ e. let g = given-alone (sizes n out) (check17 (parsed l)) (check18 n tree ∷ checkLone (length l) tree ∷ []) 17 p refl refl (given 17 p e) in
+    λ e. let g = given-alone (sizes n out) (check17 (parsed l)) (check18 n tree ∷ checkLone (length l) tree ∷ []) 17 p refl refl
+        (given 17 p e) in
         (sized-to n out (g .0), stop-exactly l p .0 (stopped (parsed l) p (g .1))),
     λ h. let s = sized-from n out (h .0) in
         gives 17 p (later (s .0) (later (s .1 .0) (here refl (ap stopPlace (stop-exactly l p .1 (h .1)))))),
@@ -104,7 +110,8 @@ module _ (n : ℕ) (l out : List ℕ) where
       ↔ (Sized n out × ((t : Tree) × Text l t × LowestWith (λ x. Stands n t x → ⊥) p))
   unfolding readChecks textChecks lacks
   reading-18 p = (
-    λ e. let g = given-alone (check1 n ∷ check3 n out ∷ check17 (parsed l) ∷ []) (check18 n tree) (checkLone (length l) tree ∷ []) 18 p refl refl (given 18 p e) in
+    λ e. let g = given-alone (check1 n ∷ check3 n out ∷ check17 (parsed l) ∷ []) (check18 n tree)
+        (checkLone (length l) tree ∷ []) 18 p refl refl (given 18 p e) in
         (sized-to n out (g .0 .0, (g .0 .1 .0, tt)), (tree, formed (g .0 .1 .1 .0), amiss-exactly n tree p .0 (g .1))),
     λ h. let s = sized-from n out (h .0) in let t = tree-of (h .1 .1) in
         gives 18 p (later (s .0) (later (s .1 .0) (later (t .0) (here refl
@@ -116,7 +123,8 @@ module _ (n : ℕ) (l out : List ℕ) where
       ↔ (Sized n out × ((t : Tree) × Text l t × ((x : ℕ) → Stands n t x) × LowestWith (Single t) q))
   unfolding readChecks textChecks lacks
   reading-10 q = (
-    λ e. let g = given-alone (check1 n ∷ check3 n out ∷ check17 (parsed l) ∷ check18 n tree ∷ []) (checkLone (length l) tree) [] 10 q refl refl (given 10 q e) in
+    λ e. let g = given-alone (check1 n ∷ check3 n out ∷ check17 (parsed l) ∷ check18 n tree ∷ [])
+        (checkLone (length l) tree) [] 10 q refl refl (given 10 q e) in
         let s = formed (g .0 .1 .1 .0) in
         (sized-to n out (g .0 .0, (g .0 .1 .0, tt)), (tree, s, stands-exactly n tree .0 (g .0 .1 .1 .1 .0), single-exactly s q .0 (g .1))),
     λ h. let s = sized-from n out (h .0) in let t = tree-of (h .1 .1) in
@@ -143,7 +151,8 @@ module _ (n : ℕ) (l out : List ℕ) where
               (
                 subst (λ (u : Tree). check18 n u .fault ≡ nowhere) (sym (t .1)) (stands-exactly n (h .1 .0) .1 (h .1 .2 .once)),
                 (
-                  subst (λ (u : Tree). checkLone (length l) u .fault ≡ nowhere) (sym (t .1)) (paired-exactly (h .1 .1) .1 (h .1 .2 .paired)),
+                  subst (λ (u : Tree). checkLone (length l) u .fault ≡ nowhere) (sym (t .1))
+                      (paired-exactly (h .1 .1) .1 (h .1 .2 .paired)),
                   tt,
                 ),
               ),
@@ -168,10 +177,12 @@ module _ (n : ℕ) (l out : List ℕ) (b : ℕ) (short : length l < b) (far : sa
 
   pub reading-placed : Placed b (readChecks n (parsed l) (length l) out)
   unfolding readChecks textChecks
-  reading-placed = placed-line b 1 (outside fewestSamples mostSamples n) _ (omega arith) (λ e. placed-line b 3 (not (eqb (length out) (rowWords n))) _ (omega arith)
+  reading-placed = placed-line b 1 (outside fewestSamples mostSamples n) _ (omega arith)
+      (λ e. placed-line b 3 (not (eqb (length out) (rowWords n))) _ (omega arith)
       (λ f. text-placed (samples-exactly n .0 e .1)))
     where
       text-placed : n ≤ 512 → Placed b (check17 (parsed l) ∷ check18 n (treeIn (parsed l)) ∷ checkLone (length l) (treeIn (parsed l)) ∷ [])
       text-placed m k p (here x e) = omega (arith, stop-exactly l p .0 (stopped (parsed l) p e) .within)
       text-placed m k p (later e (here x f)) = placed-18 e p f m
-      text-placed m k p (later e (later f g)) = placed-at b 10 (λ q. among q (lonely (treeIn (parsed l)))) 0 (length l) [] (omega arith) (placed-none b) k p g
+      text-placed m k p (later e (later f g)) = placed-at b 10 (λ q. among q (lonely (treeIn (parsed l)))) 0 (length l) [] (omega arith)
+          (placed-none b) k p g

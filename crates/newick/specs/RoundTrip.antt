@@ -47,10 +47,12 @@ written-tells n r ok w =
     let m = meant n r ok w (nodes r) mostOpen v 0 (h .1) (omega arith) (omega (arith, ok .high, ok .most)) in record {
       tree = m .tree;
       text = Text.a-text (nodeText (nodes r) n r w v) [] (m .tree) (m .form) none;
-      once = λ x. m .stands x ∙ ap (λ (b : Bool). cond b 1 0) (true-eq (shows n r v x) (ltb x n) (λ e. and-l (ltb x n) (meets (nodes r) r v x) e)
+      once = λ x. m .stands x ∙ ap (λ (b : Bool). cond b 1 0) (true-eq (shows n r v x) (ltb x n)
+          (λ e. and-l (ltb x n) (meets (nodes r) r v x) e)
           (λ e. rw e (root-above n r ok x (omega (arith, ltb-true x n e, ok .low)))));
       same = λ g. true-eq (member g (groupsOf n (m .tree))) (member g (groups n r)) (m .sound g)
-          (λ e. let t = in-groups n r g e in subst (λ (z : Group). In z (groupsOf n (m .tree))) (t .2) (m .whole (t .0) (t .1) (root-above n r ok (t .0) (t .1))));
+          (λ e. let t = in-groups n r g e in subst (λ (z : Group). In z (groupsOf n (m .tree))) (t .2)
+          (m .whole (t .0) (t .1) (root-above n r ok (t .0) (t .1))));
       paired = m .paired;
     }
 

@@ -51,7 +51,8 @@ unfoldable pub listed : (ℕ → List ℕ) → List ℕ → List ℕ
 listed f [] = []
 listed f (c ∷ cs) = f c ++ commas f cs
 
--- the word of a node, in decimal, where supports are wanted; behind the root's bracket, the last, none stands (RULES 14.11)
+-- the word of a node, in decimal, where supports are wanted; behind the root's bracket, the last, none stands (RULES
+-- 14.11)
 abbrev pub wordText : Wanted → ℕ → List ℕ
 wordText plain v = []
 wordText (with-words ws) v = decimal (getD ws (suc v) 0)
@@ -59,7 +60,8 @@ wordText (with-words ws) v = decimal (getD ws (suc v) 0)
 abbrev pub markText : List ℕ → Wanted → ℕ → List ℕ
 markText r w v = cond (childOf r rootMark v) [] (wordText w v)
 
--- the text of a node: of a sample its number, of an inner node a pair (RULES 14.10). At most as many pairs stand in one another as there are nodes.
+-- the text of a node: of a sample its number, of an inner node a pair (RULES 14.10); at most as many pairs stand in one
+-- another as there are nodes
 unfoldable pub nodeText : ℕ → ℕ → List ℕ → Wanted → ℕ → List ℕ
 nodeText zero n r w v = decimal v
 nodeText (suc f) n r w v = cond (ltb v n) (decimal v)

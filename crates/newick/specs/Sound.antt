@@ -13,6 +13,7 @@ use Rattle.newick.specs.Tree.Mark.{unmarked, marked}
 use Rattle.newick.specs.Tree.Tree.{leaf, pair}
 use Rattle.newick.specs.Tree.Forest.{only, more}
 use Rattle.newick.specs.Tree.Stack.{top, opened, later}
+use Rattle.newick.specs.Bytes.{closingByte, colonByte, commaByte, noughtByte, openingByte, pointByte, semicolonByte}
 use Rattle.newick.specs.Bytes.{kindOf, isBlank, isDigit}
 use Rattle.newick.specs.Walk.{State, Move, parsed, walk, final, step, follow, allowed, entered, begun, longer, shut, next, last}
 use Rattle.newick.specs.Walk.State.{want, sample, closed, support, ended, measure, whole, point, part, measured, done}
@@ -29,8 +30,11 @@ use lib.Seq.{append-snoc}
 -- l opens the brackets of a stack
 pub data Open : Stack → List ℕ → Type 0 where
   bottom : Open top []
-  bracket : (k : Stack) (q : ℕ) (w l a : List ℕ) → w ≡ l ++ (a ++ (40 ∷ [])) → q ≡ length l + length a → Blanks a → depth k < mostOpen → Open k l → Open (opened k q) w
-  commaed : (k : Stack) (q : ℕ) (f : Forest) (w l m : List ℕ) (d : ℕ) → w ≡ l ++ (m ++ (44 ∷ [])) → suc (depth k) + d ≡ mostOpen → Open (opened k q) l → Subtrees d (suc q) m f → Open (later k q f) w
+  bracket : (k : Stack) (q : ℕ) (w l a : List ℕ) → w ≡ l ++ (a ++ (openingByte ∷ [])) → q ≡ length l + length a → Blanks a
+      → depth k < mostOpen
+      → Open k l → Open (opened k q) w
+  commaed : (k : Stack) (q : ℕ) (f : Forest) (w l m : List ℕ) (d : ℕ) → w ≡ l ++ (m ++ (commaByte ∷ [])) → suc (depth k) + d ≡ mostOpen
+      → Open (opened k q) l → Subtrees d (suc q) m f → Open (later k q f) w
 
 -- l ends the subtree t in a stack
 pub record Fits (k : Stack) (l : List ℕ) (t : Tree) : Type 0 where
@@ -57,7 +61,8 @@ Before (closed k q f) l = (s m : List ℕ) (μ : Mark) → Support s μ → Leng
 Before (support k q f x) l = (n m : List ℕ) → All isDigit n → Length m → Fits k (l ++ (n ++ m)) (pair q f (marked (valueAfter x n)))
 Before (ended k t) l = (m : List ℕ) → Length m → Fits k (l ++ m) t
 Before (measure k t) l = (b n c : List ℕ) → Blanks b → Number n → Blanks c → Fits k (l ++ (b ++ (n ++ c))) t
-Before (whole k t) l = ((n c : List ℕ) → All isDigit n → Blanks c → Fits k (l ++ (n ++ c)) t) × ((n m c : List ℕ) → All isDigit n → Digits m → Blanks c → Fits k (l ++ (n ++ (46 ∷ (m ++ c)))) t)
+Before (whole k t) l = ((n c : List ℕ) → All isDigit n → Blanks c → Fits k (l ++ (n ++ c)) t) ×
+    ((n m c : List ℕ) → All isDigit n → Digits m → Blanks c → Fits k (l ++ (n ++ (pointByte ∷ (m ++ c)))) t)
 Before (point k t) l = (n c : List ℕ) → Digits n → Blanks c → Fits k (l ++ (n ++ c)) t
 Before (part k t) l = (n c : List ℕ) → All isDigit n → Blanks c → Fits k (l ++ (n ++ c)) t
 Before (measured k t) l = (c : List ℕ) → Blanks c → Fits k (l ++ c) t
@@ -65,20 +70,22 @@ Before (done t) l = (a : List ℕ) → Blanks a → Text (l ++ a) t
 
 length-open : {k : Stack} {q : ℕ} {l : List ℕ} → Open (opened k q) l → length l ≡ suc q
 length-open (Open.bracket k q w m a e g b h o) =
-    let z : length w ≡ length m + (length a + 1) = ap length e ∙ length-append m (a ++ (40 ∷ [])) ∙ ap (length m +_) (length-append a (40 ∷ [])) in omega arith
+    let z : length w ≡ length m + (length a + 1) = ap length e ∙ length-append m (a ++ (openingByte ∷ []))
+    ∙ ap (length m +_) (length-append a (openingByte ∷ [])) in omega arith
 
 -- a pair of brackets, from its opening
-close-by : {k : Stack} {q : ℕ} {w : List ℕ} → Open (opened k q) w → (v : List ℕ) (f : Forest) (d : ℕ) → suc (depth k) + d ≡ mostOpen → Subtrees d (suc q) v f
-    → (s m : List ℕ) (μ : Mark) → Support s μ → Length m → Fits k (w ++ (v ++ (41 ∷ (s ++ m)))) (pair q f μ)
+close-by : {k : Stack} {q : ℕ} {w : List ℕ} → Open (opened k q) w → (v : List ℕ) (f : Forest) (d : ℕ) → suc (depth k) + d ≡ mostOpen
+    → Subtrees d (suc q) v f
+    → (s m : List ℕ) (μ : Mark) → Support s μ → Length m → Fits k (w ++ (v ++ (closingByte ∷ (s ++ m)))) (pair q f μ)
 close-by (Open.bracket k q w l a e g b h o) v f d n u s m μ x y =
     record {
       base = l;
-      word = a ++ (40 ∷ (v ++ (41 ∷ (s ++ m))));
+      word = a ++ (openingByte ∷ (v ++ (closingByte ∷ (s ++ m))));
       split = rw e (simp append-assoc);
       opens = o;
       d = suc d;
       deep = omega arith;
-      sub = Subtree.a-pair d (length l) q (a ++ (40 ∷ (v ++ (41 ∷ (s ++ m))))) a v s m f μ refl g b u x y;
+      sub = Subtree.a-pair d (length l) q (a ++ (openingByte ∷ (v ++ (closingByte ∷ (s ++ m))))) a v s m f μ refl g b u x y;
     }
 
 -- the subtrees of an open bracket, with one more
@@ -104,39 +111,46 @@ holds-first k q l t f =
       subs = Subtrees.one (f .d) (suc q) (f .word) t (subst (λ (i : ℕ). Subtree (f .d) i (f .word) t) (length-open (f .opens)) (f .sub));
     }
 
-holds-later-at : {k : Stack} {q : ℕ} {g : Forest} {w : List ℕ} → Open (later k q g) w → (v : List ℕ) (t : Tree) (d : ℕ) → suc (depth k) + d ≡ mostOpen → Subtree d (length w) v t → Holds k q (w ++ v) (more g t)
+holds-later-at : {k : Stack} {q : ℕ} {g : Forest} {w : List ℕ} → Open (later k q g) w → (v : List ℕ) (t : Tree) (d : ℕ)
+    → suc (depth k) + d ≡ mostOpen → Subtree d (length w) v t → Holds k q (w ++ v) (more g t)
 holds-later-at (Open.commaed k q f w l m c e n o s) v t d h u =
     let z : d ≡ c = omega arith in
-    let y : length w ≡ suc (suc q + length m) = ap length e ∙ length-append l (m ++ (44 ∷ [])) ∙ ap (length l +_) (length-append m (44 ∷ [])) ∙ (let y′ = length-open o in let y″ : length l + (length m + 1) ≡ suc (suc q + length m) = omega arith in y″) in
+    let y : length w ≡ suc (suc q + length m) = ap length e ∙ length-append l (m ++ (commaByte ∷ []))
+    ∙ ap (length l +_) (length-append m (commaByte ∷ [])) ∙ (let y′ = length-open o in
+    let y″ : length l + (length m + 1) ≡ suc (suc q + length m) = omega arith in y″) in
     record {
       base = l;
-      word = m ++ (44 ∷ v);
+      word = m ++ (commaByte ∷ v);
       split = rw e (simp append-assoc);
       opens = o;
       d = c;
       deep = n;
-      subs = Subtrees.parted c (suc q) (m ++ (44 ∷ v)) m v f t refl s (subst (λ (i : ℕ). Subtree c i v t) y (subst (λ (i : ℕ). Subtree i (length w) v t) z u));
+      subs = Subtrees.parted c (suc q) (m ++ (commaByte ∷ v)) m v f t refl s
+          (subst (λ (i : ℕ). Subtree c i v t) y (subst (λ (i : ℕ). Subtree i (length w) v t) z u));
     }
 
 holds-later : (k : Stack) (q : ℕ) (g : Forest) (l : List ℕ) (t : Tree) → Fits (later k q g) l t → Holds k q l (more g t)
 unfolding depth
 holds-later k q g l t f = rw (f .split) (holds-later-at (f .opens) (f .word) t (f .d) (f .deep) (f .sub))
 
-holds-closed : (k : Stack) (q : ℕ) (l : List ℕ) (f : Forest) → Holds k q l f → Before (closed k q f) (l ++ (41 ∷ []))
+holds-closed : (k : Stack) (q : ℕ) (l : List ℕ) (f : Forest) → Holds k q l f → Before (closed k q f) (l ++ (closingByte ∷ []))
 unfolding Before
 holds-closed k q l f h s m μ x y =
-    subst (λ (z : List ℕ). Fits k z (pair q f μ)) (let e : h .base ++ (h .word ++ (41 ∷ (s ++ m))) ≡ (l ++ (41 ∷ [])) ++ (s ++ m) = rw (h .split) (simp append-assoc) in e)
+    subst (λ (z : List ℕ). Fits k z (pair q f μ)) (let e : h .base ++ (h .word ++ (closingByte ∷ (s ++ m))) ≡
+    (l ++ (closingByte ∷ [])) ++ (s ++ m) =
+    rw (h .split) (simp append-assoc) in e)
     (close-by (h .opens) (h .word) f (h .d) (h .deep) (h .subs) s m μ x y)
 
-holds-comma : (k : Stack) (q : ℕ) (l : List ℕ) (f : Forest) → Holds k q l f → Before (want (later k q f)) (l ++ (44 ∷ []))
+holds-comma : (k : Stack) (q : ℕ) (l : List ℕ) (f : Forest) → Holds k q l f → Before (want (later k q f)) (l ++ (commaByte ∷ []))
 unfolding Before
 holds-comma k q l f h =
     record {
-      base = l ++ (44 ∷ []);
+      base = l ++ (commaByte ∷ []);
       gap = [];
-      split = sym (append-nil (l ++ (44 ∷ [])));
+      split = sym (append-nil (l ++ (commaByte ∷ [])));
       blanks = none;
-      opens = Open.commaed k q f (l ++ (44 ∷ [])) (h .base) (h .word) (h .d) (rw (h .split) (simp append-assoc)) (h .deep) (h .opens) (h .subs);
+      opens = Open.commaed k q f (l ++ (commaByte ∷ [])) (h .base) (h .word) (h .d) (rw (h .split) (simp append-assoc)) (h .deep) (h .opens)
+          (h .subs);
     }
 
 -- "to" determines the state
@@ -147,33 +161,39 @@ never : {P : Type 0} {s : State} → stuck ≡ to s → P
 never e = absurd (let z : _≡_ {A = ℕ} 0 1 = cc in omega arith)
 
 -- a closing bracket, a comma and the semicolon
-shut-keeps : (k : Stack) (l : List ℕ) (t : Tree) (s′ : State) → Fits k l t → shut k t ≡ to s′ → Before s′ (l ++ (41 ∷ []))
+shut-keeps : (k : Stack) (l : List ℕ) (t : Tree) (s′ : State) → Fits k l t → shut k t ≡ to s′ → Before s′ (l ++ (closingByte ∷ []))
 unfolding shut
 shut-keeps top l t s′ f e = never e
-shut-keeps (opened k q) l t s′ f e = subst (λ (z : State). Before z (l ++ (41 ∷ []))) (to-inj (closed k q (only t)) s′ e) (holds-closed k q l (only t) (holds-first k q l t f))
-shut-keeps (later k q g) l t s′ f e = subst (λ (z : State). Before z (l ++ (41 ∷ []))) (to-inj (closed k q (more g t)) s′ e) (holds-closed k q l (more g t) (holds-later k q g l t f))
+shut-keeps (opened k q) l t s′ f e = subst (λ (z : State). Before z (l ++ (closingByte ∷ []))) (to-inj (closed k q (only t)) s′ e)
+    (holds-closed k q l (only t) (holds-first k q l t f))
+shut-keeps (later k q g) l t s′ f e = subst (λ (z : State). Before z (l ++ (closingByte ∷ []))) (to-inj (closed k q (more g t)) s′ e)
+    (holds-closed k q l (more g t) (holds-later k q g l t f))
 
-next-keeps : (k : Stack) (l : List ℕ) (t : Tree) (s′ : State) → Fits k l t → next k t ≡ to s′ → Before s′ (l ++ (44 ∷ []))
+next-keeps : (k : Stack) (l : List ℕ) (t : Tree) (s′ : State) → Fits k l t → next k t ≡ to s′ → Before s′ (l ++ (commaByte ∷ []))
 unfolding next
 next-keeps top l t s′ f e = never e
-next-keeps (opened k q) l t s′ f e = subst (λ (z : State). Before z (l ++ (44 ∷ []))) (to-inj (want (later k q (only t))) s′ e) (holds-comma k q l (only t) (holds-first k q l t f))
-next-keeps (later k q g) l t s′ f e = subst (λ (z : State). Before z (l ++ (44 ∷ []))) (to-inj (want (later k q (more g t))) s′ e) (holds-comma k q l (more g t) (holds-later k q g l t f))
+next-keeps (opened k q) l t s′ f e = subst (λ (z : State). Before z (l ++ (commaByte ∷ []))) (to-inj (want (later k q (only t))) s′ e)
+    (holds-comma k q l (only t) (holds-first k q l t f))
+next-keeps (later k q g) l t s′ f e = subst (λ (z : State). Before z (l ++ (commaByte ∷ []))) (to-inj (want (later k q (more g t))) s′ e)
+    (holds-comma k q l (more g t) (holds-later k q g l t f))
 
 open-top : {l : List ℕ} → Open top l → l ≡ []
 open-top Open.bottom = refl
 
-done-by : (l : List ℕ) (t : Tree) → Fits top l t → Before (done t) (l ++ (59 ∷ []))
+done-by : (l : List ℕ) (t : Tree) → Fits top l t → Before (done t) (l ++ (semicolonByte ∷ []))
 unfolding Before depth
 done-by l t f a b =
     let e : f .base ≡ [] = open-top (f .opens) in
     let n : f .d ≡ mostOpen = omega (arith, f .deep) in
     let w : l ≡ f .word = f .split ∙ ap (_++ f .word) e in
-    let u : Subtree mostOpen 0 l t = rw w (subst (λ (i : ℕ). Subtree i 0 (f .word) t) n (subst (λ (z : List ℕ). Subtree (f .d) (length z) (f .word) t) e (f .sub))) in
-    subst (λ (z : List ℕ). Text z t) (let y : l ++ (59 ∷ a) ≡ (l ++ (59 ∷ [])) ++ a = simp append-assoc in y) (Text.a-text l a t u b)
+    let u : Subtree mostOpen 0 l t = rw w (subst (λ (i : ℕ). Subtree i 0 (f .word) t) n
+    (subst (λ (z : List ℕ). Subtree (f .d) (length z) (f .word) t) e (f .sub))) in
+    subst (λ (z : List ℕ). Text z t) (let y : l ++ (semicolonByte ∷ a) ≡ (l ++ (semicolonByte ∷ [])) ++ a = simp append-assoc in y)
+    (Text.a-text l a t u b)
 
-last-keeps : (k : Stack) (l : List ℕ) (t : Tree) (s′ : State) → Fits k l t → last k t ≡ to s′ → Before s′ (l ++ (59 ∷ []))
+last-keeps : (k : Stack) (l : List ℕ) (t : Tree) (s′ : State) → Fits k l t → last k t ≡ to s′ → Before s′ (l ++ (semicolonByte ∷ []))
 unfolding last
-last-keeps top l t s′ f e = subst (λ (z : State). Before z (l ++ (59 ∷ []))) (to-inj (done t) s′ e) (done-by l t f)
+last-keeps top l t s′ f e = subst (λ (z : State). Before z (l ++ (semicolonByte ∷ []))) (to-inj (done t) s′ e) (done-by l t f)
 last-keeps (opened k q) l t s′ f e = never e
 last-keeps (later k q g) l t s′ f e = never e
 
@@ -200,59 +220,77 @@ support-cons b e (Support.supported a c l x d y) = Support.supported (b ∷ a) c
 no-length : Length []
 no-length = Length.lengthless [] none
 
-colon-length : (b n c : List ℕ) → Blanks b → Number n → Blanks c → Length (58 ∷ (b ++ (n ++ c)))
+colon-length : (b n c : List ℕ) → Blanks b → Number n → Blanks c → Length (colonByte ∷ (b ++ (n ++ c)))
 colon-length b n c x y z = Length.lengthed [] b c n none x y z
 
-keep-ended : (k : Stack) (t : Tree) (l : List ℕ) (b : ℕ) (s′ : State) → Before (ended k t) l → step (ended k t) (length l) (kindOf b) ≡ to s′ → Before s′ (l ++ (b ∷ []))
+keep-ended : (k : Stack) (t : Tree) (l : List ℕ) (b : ℕ) (s′ : State) → Before (ended k t) l
+    → step (ended k t) (length l) (kindOf b) ≡ to s′ → Before s′ (l ++ (b ∷ []))
 unfolding Before step valueAfter longer
 keep-ended k t l b s′ f =
     kind-all (λ κ. step (ended k t) (length l) κ ≡ to s′ → Before s′ (l ++ (b ∷ []))) b
     (λ z e. come (ended k t) s′ (l ++ (b ∷ [])) e (λ m y. shift k t l b m (f (b ∷ m) (length-cons b z y))))
     (λ z e. never e)
     (λ z e. never e)
-    (λ z e. at-byte s′ l b 41 z (shut-keeps k l t s′ (here k t l (f [] no-length)) e))
-    (λ z e. at-byte s′ l b 44 z (next-keeps k l t s′ (here k t l (f [] no-length)) e))
-    (λ z e. at-byte s′ l b 59 z (last-keeps k l t s′ (here k t l (f [] no-length)) e))
-    (λ z e. at-byte s′ l b 58 z (come (measure k t) s′ (l ++ (58 ∷ [])) e (λ u n c x y w. shift k t l 58 (u ++ (n ++ c)) (f (58 ∷ (u ++ (n ++ c))) (colon-length u n c x y w)))))
+    (λ z e. at-byte s′ l b closingByte z (shut-keeps k l t s′ (here k t l (f [] no-length)) e))
+    (λ z e. at-byte s′ l b commaByte z (next-keeps k l t s′ (here k t l (f [] no-length)) e))
+    (λ z e. at-byte s′ l b semicolonByte z (last-keeps k l t s′ (here k t l (f [] no-length)) e))
+    (λ z e. at-byte s′ l b colonByte z (come (measure k t) s′ (l ++ (colonByte ∷ [])) e
+    (λ u n c x y w. shift k t l colonByte (u ++ (n ++ c)) (f (colonByte ∷ (u ++ (n ++ c))) (colon-length u n c x y w)))))
     (λ z e. never e)
     (λ e. never e)
 
-keep-support : (k : Stack) (q : ℕ) (g : Forest) (i : ℕ) (l : List ℕ) (b : ℕ) (s′ : State) → Before (support k q g i) l → step (support k q g i) (length l) (kindOf b) ≡ to s′ → Before s′ (l ++ (b ∷ []))
+keep-support : (k : Stack) (q : ℕ) (g : Forest) (i : ℕ) (l : List ℕ) (b : ℕ) (s′ : State) → Before (support k q g i) l
+    → step (support k q g i) (length l) (kindOf b) ≡ to s′ → Before s′ (l ++ (b ∷ []))
 unfolding Before step valueAfter longer
 keep-support k q g i l b s′ f =
     let t = pair q g (marked i) in
     kind-all (λ κ. step (support k q g i) (length l) κ ≡ to s′ → Before s′ (l ++ (b ∷ []))) b
     (λ z e. come (ended k t) s′ (l ++ (b ∷ [])) e (λ m y. shift k t l b m (f [] (b ∷ m) none (length-cons b z y))))
-    (λ z e. come (support k q g (i * 10 + (b - 48))) s′ (l ++ (b ∷ [])) e (λ n m a y. shift k (pair q g (marked (valueAfter (i * 10 + (b - 48)) n))) l b (n ++ m) (f (b ∷ n) m (and b n z a) y)))
+    (λ z e. come (support k q g (i * 10 + (b - noughtByte))) s′ (l ++ (b ∷ [])) e
+    (λ n m a y. shift k (pair q g (marked (valueAfter (i * 10 + (b - noughtByte)) n))) l b (n ++ m) (f (b ∷ n) m (and b n z a) y)))
     (λ z e. never e)
-    (λ z e. at-byte s′ l b 41 z (shut-keeps k l t s′ (here k t l (f [] [] none no-length)) e))
-    (λ z e. at-byte s′ l b 44 z (next-keeps k l t s′ (here k t l (f [] [] none no-length)) e))
-    (λ z e. at-byte s′ l b 59 z (last-keeps k l t s′ (here k t l (f [] [] none no-length)) e))
-    (λ z e. at-byte s′ l b 58 z (come (measure k t) s′ (l ++ (58 ∷ [])) e (λ u n c x y w. shift k t l 58 (u ++ (n ++ c)) (f [] (58 ∷ (u ++ (n ++ c))) none (colon-length u n c x y w)))))
+    (λ z e. at-byte s′ l b closingByte z (shut-keeps k l t s′ (here k t l (f [] [] none no-length)) e))
+    (λ z e. at-byte s′ l b commaByte z (next-keeps k l t s′ (here k t l (f [] [] none no-length)) e))
+    (λ z e. at-byte s′ l b semicolonByte z (last-keeps k l t s′ (here k t l (f [] [] none no-length)) e))
+    (λ z e. at-byte s′ l b colonByte z (come (measure k t) s′ (l ++ (colonByte ∷ [])) e
+    (λ u n c x y w. shift k t l colonByte (u ++ (n ++ c)) (f [] (colonByte ∷ (u ++ (n ++ c))) none (colon-length u n c x y w)))))
     (λ z e. never e)
     (λ e. never e)
 
-keep-closed : (k : Stack) (q : ℕ) (g : Forest) (l : List ℕ) (b : ℕ) (s′ : State) → Before (closed k q g) l → step (closed k q g) (length l) (kindOf b) ≡ to s′ → Before s′ (l ++ (b ∷ []))
+keep-closed : (k : Stack) (q : ℕ) (g : Forest) (l : List ℕ) (b : ℕ) (s′ : State) → Before (closed k q g) l
+    → step (closed k q g) (length l) (kindOf b) ≡ to s′ → Before s′ (l ++ (b ∷ []))
 unfolding Before step valueAfter longer
 keep-closed k q g l b s′ f =
     let t = pair q g unmarked in
     kind-all (λ κ. step (closed k q g) (length l) κ ≡ to s′ → Before s′ (l ++ (b ∷ []))) b
-    (λ z e. come (closed k q g) s′ (l ++ (b ∷ [])) e (λ n m μ x y. shift k (pair q g μ) l b (n ++ m) (f (b ∷ n) m μ (support-cons b z x) y)))
-    (λ z e. come (support k q g (b - 48)) s′ (l ++ (b ∷ [])) e (λ n m a y. shift k (pair q g (marked (valueAfter (b - 48) n))) l b (n ++ m) (f (b ∷ n) m (marked (valueAfter (b - 48) n)) (Support.supported [] b n none z a) y)))
+    (λ z e. come (closed k q g) s′ (l ++ (b ∷ [])) e (λ n m μ x y. shift k (pair q g μ) l b (n ++ m)
+    (f (b ∷ n) m μ (support-cons b z x) y)))
+    (λ z e. come (support k q g (b - noughtByte)) s′ (l ++ (b ∷ [])) e
+    (λ n m a y. shift k (pair q g (marked (valueAfter (b - noughtByte) n))) l b
+    (n ++ m) (f (b ∷ n) m (marked (valueAfter (b - noughtByte) n)) (Support.supported [] b n none z a) y)))
     (λ z e. never e)
-    (λ z e. at-byte s′ l b 41 z (shut-keeps k l t s′ (here k t l (f [] [] unmarked (Support.unsupported [] none) no-length)) e))
-    (λ z e. at-byte s′ l b 44 z (next-keeps k l t s′ (here k t l (f [] [] unmarked (Support.unsupported [] none) no-length)) e))
-    (λ z e. at-byte s′ l b 59 z (last-keeps k l t s′ (here k t l (f [] [] unmarked (Support.unsupported [] none) no-length)) e))
-    (λ z e. at-byte s′ l b 58 z (come (measure k t) s′ (l ++ (58 ∷ [])) e (λ u n c x y w. shift k t l 58 (u ++ (n ++ c)) (f [] (58 ∷ (u ++ (n ++ c))) unmarked (Support.unsupported [] none) (colon-length u n c x y w)))))
+    (λ z e. at-byte s′ l b closingByte z (shut-keeps k l t s′ (here k t l (f [] [] unmarked (Support.unsupported [] none) no-length)) e))
+    (λ z e. at-byte s′ l b commaByte z (next-keeps k l t s′ (here k t l (f [] [] unmarked (Support.unsupported [] none) no-length)) e))
+    (λ z e. at-byte s′ l b semicolonByte z (last-keeps k l t s′ (here k t l (f [] [] unmarked (Support.unsupported [] none) no-length)) e))
+    (λ z e. at-byte s′ l b colonByte z (come (measure k t) s′ (l ++ (colonByte ∷ [])) e
+    (λ u n c x y w. shift k t l colonByte (u ++ (n ++ c)) (f [] (colonByte ∷ (u ++ (n ++ c))) unmarked (Support.unsupported [] none)
+    (colon-length u n c x y w)))))
     (λ z e. never e)
     (λ e. never e)
 
-keep-measure : (k : Stack) (t : Tree) (l : List ℕ) (b : ℕ) (s′ : State) → Before (measure k t) l → step (measure k t) (length l) (kindOf b) ≡ to s′ → Before s′ (l ++ (b ∷ []))
+keep-measure : (k : Stack) (t : Tree) (l : List ℕ) (b : ℕ) (s′ : State) → Before (measure k t) l
+    → step (measure k t) (length l) (kindOf b) ≡ to s′ → Before s′ (l ++ (b ∷ []))
 unfolding Before step valueAfter longer
 keep-measure k t l b s′ f =
     kind-all (λ κ. step (measure k t) (length l) κ ≡ to s′ → Before s′ (l ++ (b ∷ []))) b
     (λ z e. come (measure k t) s′ (l ++ (b ∷ [])) e (λ u n c x y w. shift k t l b (u ++ (n ++ c)) (f (b ∷ u) n c (and b u z x) y w)))
-    (λ z e. come (whole k t) s′ (l ++ (b ∷ [])) e ((λ n c a w. shift k t l b (n ++ c) (f [] (b ∷ n) c none (Number.plain (b ∷ n) (digits b n z a)) w)), (λ n m c a d w. shift k t l b (n ++ (46 ∷ (m ++ c))) (subst (λ (r : List ℕ). Fits k (l ++ (b ∷ r)) t) (append-assoc n (46 ∷ m) c) (f [] ((b ∷ n) ++ (46 ∷ m)) c none (Number.pointed (b ∷ n) m (digits b n z a) d) w)))))
+    (λ z e. come (whole k t) s′ (l ++ (b ∷ [])) e (
+      (λ n c a w. shift k t l b (n ++ c)
+          (f [] (b ∷ n) c none (Number.plain (b ∷ n) (digits b n z a)) w)),
+      (λ n m c a d w. shift k t l b (n ++ (pointByte ∷ (m ++ c)))
+          (subst (λ (r : List ℕ). Fits k (l ++ (b ∷ r)) t) (append-assoc n (pointByte ∷ m) c)
+          (f [] ((b ∷ n) ++ (pointByte ∷ m)) c none (Number.pointed (b ∷ n) m (digits b n z a) d) w))),
+    ))
     (λ z e. never e)
     (λ z e. never e)
     (λ z e. never e)
@@ -261,21 +299,27 @@ keep-measure k t l b s′ f =
     (λ z e. never e)
     (λ e. never e)
 
-keep-whole : (k : Stack) (t : Tree) (l : List ℕ) (b : ℕ) (s′ : State) → Before (whole k t) l → step (whole k t) (length l) (kindOf b) ≡ to s′ → Before s′ (l ++ (b ∷ []))
+keep-whole : (k : Stack) (t : Tree) (l : List ℕ) (b : ℕ) (s′ : State) → Before (whole k t) l
+    → step (whole k t) (length l) (kindOf b) ≡ to s′ → Before s′ (l ++ (b ∷ []))
 unfolding Before step valueAfter longer
 keep-whole k t l b s′ f =
     kind-all (λ κ. step (whole k t) (length l) κ ≡ to s′ → Before s′ (l ++ (b ∷ []))) b
     (λ z e. come (measured k t) s′ (l ++ (b ∷ [])) e (λ c w. shift k t l b c (f .0 [] (b ∷ c) none (and b c z w))))
-    (λ z e. come (whole k t) s′ (l ++ (b ∷ [])) e ((λ n c a w. shift k t l b (n ++ c) (f .0 (b ∷ n) c (and b n z a) w)), (λ n m c a d w. shift k t l b (n ++ (46 ∷ (m ++ c))) (f .1 (b ∷ n) m c (and b n z a) d w))))
+    (λ z e. come (whole k t) s′ (l ++ (b ∷ [])) e (
+      (λ n c a w. shift k t l b (n ++ c) (f .0 (b ∷ n) c (and b n z a) w)),
+      (λ n m c a d w. shift k t l b (n ++ (pointByte ∷ (m ++ c))) (f .1 (b ∷ n) m c (and b n z a) d w)),
+    ))
     (λ z e. never e)
-    (λ z e. at-byte s′ l b 41 z (shut-keeps k l t s′ (here k t l (f .0 [] [] none none)) e))
-    (λ z e. at-byte s′ l b 44 z (next-keeps k l t s′ (here k t l (f .0 [] [] none none)) e))
-    (λ z e. at-byte s′ l b 59 z (last-keeps k l t s′ (here k t l (f .0 [] [] none none)) e))
+    (λ z e. at-byte s′ l b closingByte z (shut-keeps k l t s′ (here k t l (f .0 [] [] none none)) e))
+    (λ z e. at-byte s′ l b commaByte z (next-keeps k l t s′ (here k t l (f .0 [] [] none none)) e))
+    (λ z e. at-byte s′ l b semicolonByte z (last-keeps k l t s′ (here k t l (f .0 [] [] none none)) e))
     (λ z e. never e)
-    (λ z e. at-byte s′ l b 46 z (come (point k t) s′ (l ++ (46 ∷ [])) e (λ n c d w. shift k t l 46 (n ++ c) (f .1 [] n c none d w))))
+    (λ z e. at-byte s′ l b pointByte z (come (point k t) s′ (l ++ (pointByte ∷ [])) e
+    (λ n c d w. shift k t l pointByte (n ++ c) (f .1 [] n c none d w))))
     (λ e. never e)
 
-keep-point : (k : Stack) (t : Tree) (l : List ℕ) (b : ℕ) (s′ : State) → Before (point k t) l → step (point k t) (length l) (kindOf b) ≡ to s′ → Before s′ (l ++ (b ∷ []))
+keep-point : (k : Stack) (t : Tree) (l : List ℕ) (b : ℕ) (s′ : State) → Before (point k t) l
+    → step (point k t) (length l) (kindOf b) ≡ to s′ → Before s′ (l ++ (b ∷ []))
 unfolding Before step valueAfter longer
 keep-point k t l b s′ f =
     kind-all (λ κ. step (point k t) (length l) κ ≡ to s′ → Before s′ (l ++ (b ∷ []))) b
@@ -289,39 +333,43 @@ keep-point k t l b s′ f =
     (λ z e. never e)
     (λ e. never e)
 
-keep-part : (k : Stack) (t : Tree) (l : List ℕ) (b : ℕ) (s′ : State) → Before (part k t) l → step (part k t) (length l) (kindOf b) ≡ to s′ → Before s′ (l ++ (b ∷ []))
+keep-part : (k : Stack) (t : Tree) (l : List ℕ) (b : ℕ) (s′ : State) → Before (part k t) l
+    → step (part k t) (length l) (kindOf b) ≡ to s′ → Before s′ (l ++ (b ∷ []))
 unfolding Before step valueAfter longer
 keep-part k t l b s′ f =
     kind-all (λ κ. step (part k t) (length l) κ ≡ to s′ → Before s′ (l ++ (b ∷ []))) b
     (λ z e. come (measured k t) s′ (l ++ (b ∷ [])) e (λ c w. shift k t l b c (f [] (b ∷ c) none (and b c z w))))
     (λ z e. come (part k t) s′ (l ++ (b ∷ [])) e (λ n c a w. shift k t l b (n ++ c) (f (b ∷ n) c (and b n z a) w)))
     (λ z e. never e)
-    (λ z e. at-byte s′ l b 41 z (shut-keeps k l t s′ (here k t l (f [] [] none none)) e))
-    (λ z e. at-byte s′ l b 44 z (next-keeps k l t s′ (here k t l (f [] [] none none)) e))
-    (λ z e. at-byte s′ l b 59 z (last-keeps k l t s′ (here k t l (f [] [] none none)) e))
+    (λ z e. at-byte s′ l b closingByte z (shut-keeps k l t s′ (here k t l (f [] [] none none)) e))
+    (λ z e. at-byte s′ l b commaByte z (next-keeps k l t s′ (here k t l (f [] [] none none)) e))
+    (λ z e. at-byte s′ l b semicolonByte z (last-keeps k l t s′ (here k t l (f [] [] none none)) e))
     (λ z e. never e)
     (λ z e. never e)
     (λ e. never e)
 
-keep-measured : (k : Stack) (t : Tree) (l : List ℕ) (b : ℕ) (s′ : State) → Before (measured k t) l → step (measured k t) (length l) (kindOf b) ≡ to s′ → Before s′ (l ++ (b ∷ []))
+keep-measured : (k : Stack) (t : Tree) (l : List ℕ) (b : ℕ) (s′ : State) → Before (measured k t) l
+    → step (measured k t) (length l) (kindOf b) ≡ to s′ → Before s′ (l ++ (b ∷ []))
 unfolding Before step valueAfter longer
 keep-measured k t l b s′ f =
     kind-all (λ κ. step (measured k t) (length l) κ ≡ to s′ → Before s′ (l ++ (b ∷ []))) b
     (λ z e. come (measured k t) s′ (l ++ (b ∷ [])) e (λ c w. shift k t l b c (f (b ∷ c) (and b c z w))))
     (λ z e. never e)
     (λ z e. never e)
-    (λ z e. at-byte s′ l b 41 z (shut-keeps k l t s′ (here k t l (f [] none)) e))
-    (λ z e. at-byte s′ l b 44 z (next-keeps k l t s′ (here k t l (f [] none)) e))
-    (λ z e. at-byte s′ l b 59 z (last-keeps k l t s′ (here k t l (f [] none)) e))
+    (λ z e. at-byte s′ l b closingByte z (shut-keeps k l t s′ (here k t l (f [] none)) e))
+    (λ z e. at-byte s′ l b commaByte z (next-keeps k l t s′ (here k t l (f [] none)) e))
+    (λ z e. at-byte s′ l b semicolonByte z (last-keeps k l t s′ (here k t l (f [] none)) e))
     (λ z e. never e)
     (λ z e. never e)
     (λ e. never e)
 
-keep-done : (t : Tree) (l : List ℕ) (b : ℕ) (s′ : State) → Before (done t) l → step (done t) (length l) (kindOf b) ≡ to s′ → Before s′ (l ++ (b ∷ []))
+keep-done : (t : Tree) (l : List ℕ) (b : ℕ) (s′ : State) → Before (done t) l → step (done t) (length l) (kindOf b) ≡ to s′
+    → Before s′ (l ++ (b ∷ []))
 unfolding Before step valueAfter longer
 keep-done t l b s′ f =
     kind-all (λ κ. step (done t) (length l) κ ≡ to s′ → Before s′ (l ++ (b ∷ []))) b
-    (λ z e. come (done t) s′ (l ++ (b ∷ [])) e (λ c w. subst (λ (r : List ℕ). Text r t) (sym (append-snoc l b c)) (f (b ∷ c) (and b c z w))))
+    (λ z e. come (done t) s′ (l ++ (b ∷ [])) e (λ c w. subst (λ (r : List ℕ). Text r t) (sym (append-snoc l b c))
+    (f (b ∷ c) (and b c z w))))
     (λ z e. never e)
     (λ z e. never e)
     (λ z e. never e)
@@ -331,23 +379,30 @@ keep-done t l b s′ f =
     (λ z e. never e)
     (λ e. never e)
 
-longer-keeps : (k : Stack) (x c : ℕ) (l : List ℕ) (b : ℕ) (s′ : State) → isDigit b ≡ true → Before (sample k x c) l → longer k x c (b - 48) ≡ to s′ → Before s′ (l ++ (b ∷ []))
+longer-keeps : (k : Stack) (x c : ℕ) (l : List ℕ) (b : ℕ) (s′ : State) → isDigit b ≡ true → Before (sample k x c) l
+    → longer k x c (b - noughtByte) ≡ to s′ → Before s′ (l ++ (b ∷ []))
 unfolding Before longer valueAfter
 longer-keeps k x zero l b s′ z f e = never e
 longer-keeps k x (suc c) l b s′ z f e =
-    come (sample k (x * 10 + (b - 48)) c) s′ (l ++ (b ∷ [])) e (λ n m a h y. shift k (leaf (valueAfter (x * 10 + (b - 48)) n)) l b (n ++ m) (f (b ∷ n) m (and b n z a) (omega arith) y))
+    come (sample k (x * 10 + (b - noughtByte)) c) s′ (l ++ (b ∷ [])) e
+    (λ n m a h y. shift k (leaf (valueAfter (x * 10 + (b - noughtByte)) n)) l b
+    (n ++ m) (f (b ∷ n) m (and b n z a) (omega arith) y))
 
-keep-sample : (k : Stack) (x c : ℕ) (l : List ℕ) (b : ℕ) (s′ : State) → Before (sample k x c) l → step (sample k x c) (length l) (kindOf b) ≡ to s′ → Before s′ (l ++ (b ∷ []))
+keep-sample : (k : Stack) (x c : ℕ) (l : List ℕ) (b : ℕ) (s′ : State) → Before (sample k x c) l
+    → step (sample k x c) (length l) (kindOf b) ≡ to s′ → Before s′ (l ++ (b ∷ []))
 unfolding Before step valueAfter
 keep-sample k x c l b s′ f =
     kind-all (λ κ. step (sample k x c) (length l) κ ≡ to s′ → Before s′ (l ++ (b ∷ []))) b
-    (λ z e. come (ended k (leaf x)) s′ (l ++ (b ∷ [])) e (λ m y. shift k (leaf x) l b m (f [] (b ∷ m) none (omega arith) (length-cons b z y))))
+    (λ z e. come (ended k (leaf x)) s′ (l ++ (b ∷ [])) e (λ m y. shift k (leaf x) l b m
+    (f [] (b ∷ m) none (omega arith) (length-cons b z y))))
     (λ z e. longer-keeps k x c l b s′ z f e)
     (λ z e. never e)
-    (λ z e. at-byte s′ l b 41 z (shut-keeps k l (leaf x) s′ (here k (leaf x) l (f [] [] none (omega arith) no-length)) e))
-    (λ z e. at-byte s′ l b 44 z (next-keeps k l (leaf x) s′ (here k (leaf x) l (f [] [] none (omega arith) no-length)) e))
-    (λ z e. at-byte s′ l b 59 z (last-keeps k l (leaf x) s′ (here k (leaf x) l (f [] [] none (omega arith) no-length)) e))
-    (λ z e. at-byte s′ l b 58 z (come (measure k (leaf x)) s′ (l ++ (58 ∷ [])) e (λ u n c x′ y w. shift k (leaf x) l 58 (u ++ (n ++ c)) (f [] (58 ∷ (u ++ (n ++ c))) none (omega arith) (colon-length u n c x′ y w)))))
+    (λ z e. at-byte s′ l b closingByte z (shut-keeps k l (leaf x) s′ (here k (leaf x) l (f [] [] none (omega arith) no-length)) e))
+    (λ z e. at-byte s′ l b commaByte z (next-keeps k l (leaf x) s′ (here k (leaf x) l (f [] [] none (omega arith) no-length)) e))
+    (λ z e. at-byte s′ l b semicolonByte z (last-keeps k l (leaf x) s′ (here k (leaf x) l (f [] [] none (omega arith) no-length)) e))
+    (λ z e. at-byte s′ l b colonByte z (come (measure k (leaf x)) s′ (l ++ (colonByte ∷ [])) e
+    (λ u n c x′ y w. shift k (leaf x) l colonByte (u ++ (n ++ c)) (f [] (colonByte ∷ (u ++ (n ++ c))) none (omega arith)
+    (colon-length u n c x′ y w)))))
     (λ z e. never e)
     (λ e. never e)
 
@@ -374,39 +429,53 @@ leaf-fits k l v m x h s y =
       sub = Subtree.a-sample (mostOpen - depth k) (length (h .base)) (h .gap ++ (v ++ m)) (h .gap) v m x refl (h .blanks) s y;
     }
 
-nought-keeps : (k : Stack) (l : List ℕ) → Wants k l → Before (sample k 0 0) (l ++ (48 ∷ []))
+nought-keeps : (k : Stack) (l : List ℕ) → Wants k l → Before (sample k 0 0) (l ++ (noughtByte ∷ []))
 unfolding Before valueAfter
-nought-keeps k l h n m none w y = shift k (leaf 0) l 48 m (leaf-fits k l (48 ∷ []) m 0 h Sample.nought y)
+nought-keeps k l h n m none w y = shift k (leaf 0) l noughtByte m (leaf-fits k l (noughtByte ∷ []) m 0 h Sample.nought y)
 nought-keeps k l h n m (and b r e a) w y = absurd (omega arith)
 
-first-keeps : (k : Stack) (l : List ℕ) (b : ℕ) (x : Bool) → eqb b 48 ≡ x → isDigit b ≡ true → Wants k l → Before (begun k (b - 48)) (l ++ (b ∷ []))
+first-keeps : (k : Stack) (l : List ℕ) (b : ℕ) (x : Bool) → eqb b noughtByte ≡ x → isDigit b ≡ true → Wants k l
+    → Before (begun k (b - noughtByte)) (l ++ (b ∷ []))
 unfolding Before
-first-keeps k l b true d z h = let e : b ≡ 48 = eqb-true b 48 d in rw e (subst (λ (s : State). Before s (l ++ (48 ∷ []))) (sym (begun-zero k)) (nought-keeps k l h))
+first-keeps k l b true d z h = let e : b ≡ noughtByte = eqb-true b noughtByte d in
+    rw e (subst (λ (s : State). Before s (l ++ (noughtByte ∷ []))) (sym (begun-zero k)) (nought-keeps k l h))
 first-keeps k l b false d z h =
     let r = digit-range b z in
-    subst (λ (s : State). Before s (l ++ (b ∷ []))) (sym (begun-other (b - 48) k (λ i. eqb-false b 48 d (omega (arith, r .0)))))
-    (λ n m a w y. shift k (leaf (valueAfter (b - 48) n)) l b (n ++ m) (leaf-fits k l (b ∷ n) m (valueAfter (b - 48) n) h (Sample.numeral b n z (eqb-false b 48 d) a w) y))
+    subst (λ (s : State). Before s (l ++ (b ∷ []))) (sym (begun-other (b - noughtByte) k
+    (λ i. eqb-false b noughtByte d (omega (arith, r .0)))))
+    (λ n m a w y. shift k (leaf (valueAfter (b - noughtByte) n)) l b (n ++ m)
+    (leaf-fits k l (b ∷ n) m (valueAfter (b - noughtByte) n) h (Sample.numeral b n z (eqb-false b noughtByte d) a w) y))
 
-entered-keeps : (k : Stack) (l : List ℕ) (s′ : State) (x : Bool) → ltb (depth k) mostOpen ≡ x → Wants k l → allowed x (want (opened k (length l))) ≡ to s′ → Before s′ (l ++ (40 ∷ []))
+entered-keeps : (k : Stack) (l : List ℕ) (s′ : State) (x : Bool) → ltb (depth k) mostOpen ≡ x → Wants k l
+    → allowed x (want (opened k (length l))) ≡ to s′ → Before s′ (l ++ (openingByte ∷ []))
 unfolding Before
 entered-keeps k l s′ false d h e = never e
 entered-keeps k l s′ true d h e =
-    come (want (opened k (length l))) s′ (l ++ (40 ∷ [])) e
+    come (want (opened k (length l))) s′ (l ++ (openingByte ∷ [])) e
     (record {
-      base = l ++ (40 ∷ []);
+      base = l ++ (openingByte ∷ []);
       gap = [];
-      split = sym (append-nil (l ++ (40 ∷ [])));
+      split = sym (append-nil (l ++ (openingByte ∷ [])));
       blanks = none;
-      opens = Open.bracket k (length l) (l ++ (40 ∷ [])) (h .base) (h .gap) (rw (h .split) (simp append-assoc)) (ap length (h .split) ∙ length-append (h .base) (h .gap)) (h .blanks) (ltb-true (depth k) mostOpen d) (h .opens);
+      opens = Open.bracket k (length l) (l ++ (openingByte ∷ [])) (h .base) (h .gap) (rw (h .split) (simp append-assoc))
+          (ap length (h .split) ∙ length-append (h .base) (h .gap)) (h .blanks) (ltb-true (depth k) mostOpen d) (h .opens);
     })
 
-keep-want : (k : Stack) (l : List ℕ) (b : ℕ) (s′ : State) → Before (want k) l → step (want k) (length l) (kindOf b) ≡ to s′ → Before s′ (l ++ (b ∷ []))
+keep-want : (k : Stack) (l : List ℕ) (b : ℕ) (s′ : State) → Before (want k) l → step (want k) (length l) (kindOf b) ≡ to s′
+    → Before s′ (l ++ (b ∷ []))
 unfolding Before step entered
 keep-want k l b s′ f =
     kind-all (λ κ. step (want k) (length l) κ ≡ to s′ → Before s′ (l ++ (b ∷ []))) b
-    (λ z e. come (want k) s′ (l ++ (b ∷ [])) e (record { base = f .base; gap = f .gap ++ (b ∷ []); split = rw (f .split) (simp append-assoc); opens = f .opens; blanks = all-snoc isBlank b z (f .blanks) }))
-    (λ z e. come (begun k (b - 48)) s′ (l ++ (b ∷ [])) e (first-keeps k l b (eqb b 48) refl z f))
-    (λ z e. at-byte s′ l b 40 z (entered-keeps k l s′ (ltb (depth k) mostOpen) refl f e))
+    (λ z e. come (want k) s′ (l ++ (b ∷ [])) e (record {
+      base = f .base;
+      gap = f .gap ++ (b ∷ []);
+      split =
+          rw (f .split) (simp append-assoc);
+      opens = f .opens;
+      blanks = all-snoc isBlank b z (f .blanks);
+    }))
+    (λ z e. come (begun k (b - noughtByte)) s′ (l ++ (b ∷ [])) e (first-keeps k l b (eqb b noughtByte) refl z f))
+    (λ z e. at-byte s′ l b openingByte z (entered-keeps k l s′ (ltb (depth k) mostOpen) refl f e))
     (λ z e. never e) (λ z e. never e) (λ z e. never e) (λ z e. never e) (λ z e. never e) (λ e. never e)
 
 keep : (s : State) (l : List ℕ) (b : ℕ) (s′ : State) → Before s l → step s (length l) (kindOf b) ≡ to s′ → Before s′ (l ++ (b ∷ []))
@@ -427,7 +496,8 @@ off p t e = absurd (let z : _≡_ {A = ℕ} 0 1 = cc in omega arith)
 
 final-keeps : (s : State) (l : List ℕ) (t : Tree) → Before s l → final s (length l) ≡ reads t → Text l t
 unfolding Before final
-final-keeps (done u) l t f e = let z : u ≡ t = cc in subst (λ (r : Tree). Text l r) z (subst (λ (r : List ℕ). Text r u) (append-nil l) (f [] none))
+final-keeps (done u) l t f e = let z : u ≡ t = cc in subst (λ (r : Tree). Text l r) z
+    (subst (λ (r : List ℕ). Text r u) (append-nil l) (f [] none))
 final-keeps (want k) l t f e = off _ _ e
 final-keeps (sample k x c) l t f e = off _ _ e
 final-keeps (closed k q g) l t f e = off _ _ e
@@ -439,8 +509,10 @@ final-keeps (point k u) l t f e = off _ _ e
 final-keeps (part k u) l t f e = off _ _ e
 final-keeps (measured k u) l t f e = off _ _ e
 
-walk-keeps-at : (s : State) (l r : List ℕ) (b : ℕ) (t : Tree) (m : Move) → step s (length l) (kindOf b) ≡ m → follow m (length l) (λ s′. walk s′ (suc (length l)) r) ≡ reads t
-    → ((s′ : State) → step s (length l) (kindOf b) ≡ to s′ → walk s′ (suc (length l)) r ≡ reads t → Text (l ++ (b ∷ r)) t) → Text (l ++ (b ∷ r)) t
+walk-keeps-at : (s : State) (l r : List ℕ) (b : ℕ) (t : Tree) (m : Move) → step s (length l) (kindOf b) ≡ m
+    → follow m (length l) (λ s′. walk s′ (suc (length l)) r) ≡ reads t
+    → ((s′ : State) → step s (length l) (kindOf b) ≡ to s′ → walk s′ (suc (length l)) r ≡ reads t → Text (l ++ (b ∷ r)) t)
+    → Text (l ++ (b ∷ r)) t
 walk-keeps-at s l r b t stuck d e f = off _ _ e
 walk-keeps-at s l r b t (to s′) d e f = f s′ d e
 

@@ -27,14 +27,17 @@ form-exactly l t = (sound l t, complete)
 stops-not : (o : Parse) (t : Tree) (q : ℕ) → o ≡ stops q → o ≡ reads t → ⊥
 stops-not o t q e d = let z : _≡_ {A = ℕ} 0 1 = cc in omega arith
 
-never-at : (l : List ℕ) (q : ℕ) (h : Halts (want top) 0 l q) (after : List ℕ) → h .after ≡ after → q < length l → Begins (take (suc q) l) → ⊥
+never-at : (l : List ℕ) (q : ℕ) (h : Halts (want top) 0 l q) (after : List ℕ) → h .after ≡ after → q < length l → Begins (take (suc q) l)
+    → ⊥
 unfolding parsed
-never-at l q h [] e w x = let z : length l ≡ length (h .before) + 0 = ap length (h .split) ∙ length-append (h .before) (h .after) ∙ ap (λ (r : List ℕ). length (h .before) + length r) e in omega (arith, h .place)
+never-at l q h [] e w x = let z : length l ≡ length (h .before) + 0 = ap length (h .split) ∙ length-append (h .before) (h .after)
+    ∙ ap (λ (r : List ℕ). length (h .before) + length r) e in omega (arith, h .place)
 never-at l q h (b ∷ rest) e w x =
     let s : l ≡ (h .before ++ (b ∷ [])) ++ rest = h .split ∙ ap (h .before ++_) e ∙ sym (append-snoc (h .before) b rest) in
     let k : length (h .before ++ (b ∷ [])) ≡ suc q = length-append (h .before) (b ∷ []) ∙ omega (arith, h .place) in
     let t : take (suc q) l ≡ h .before ++ (b ∷ []) = ap (take (suc q)) s ∙ take-at (h .before ++ (b ∷ [])) rest (suc q) k in
-    stops-not (parsed (take (suc q) l ++ x .0)) (x .1 .0) q (ap parsed (ap (_++ x .0) t ∙ append-snoc (h .before) b (x .0)) ∙ h .never b rest (x .0) e) (complete (x .1 .1))
+    stops-not (parsed (take (suc q) l ++ x .0)) (x .1 .0) q (ap parsed (ap (_++ x .0) t ∙ append-snoc (h .before) b (x .0))
+    ∙ h .never b rest (x .0) e) (complete (x .1 .1))
 
 -- a reading that stops at q, stops at the first such place
 pub stops-first : (l : List ℕ) (q : ℕ) → parsed l ≡ stops q → FirstStop l q
@@ -54,7 +57,8 @@ stops-first l q e =
 shorter : (l : List ℕ) (q r : ℕ) → q ≤ r → Begins (take r l) → Begins (take q l)
 shorter l q r h x =
     let e : take q l ++ (drop q (take r l) ++ x .0) ≡ take r l ++ x .0 =
-    sym (append-assoc (take q l) (drop q (take r l)) (x .0)) ∙ ap (λ (m : List ℕ). (m ++ drop q (take r l)) ++ x .0) (sym (take-take q r l h))
+    sym (append-assoc (take q l) (drop q (take r l)) (x .0)) ∙ ap (λ (m : List ℕ). (m ++ drop q (take r l)) ++ x .0)
+    (sym (take-take q r l h))
     ∙ ap (_++ x .0) (take-append-drop q (take r l)) in
     (drop q (take r l) ++ x .0, subst OfForm (sym e) (x .1))
 

@@ -1,4 +1,5 @@
--- What a Newick text means (RULES 14.8): samples, and pairs with the place of the opening byte and the number behind the closing one.
+-- What a Newick text means (RULES 14.8): samples, and pairs with the place of the opening byte and the number behind
+-- the closing one.
 use Prim.Native.Nat.{ℕ, zero, suc}
 
 -- the number of the run of digits behind a closing bracket, if there is one (RULES 14.4)

@@ -1,5 +1,5 @@
--- The reading of a text, byte by byte: what has been read is a state, and each byte leads on to a state or to none. It finds the texts of
--- the form and their trees (`form-exactly`), and the place of refusal 17 (`stop-exactly`).
+-- The reading of a text, byte by byte: what has been read is a state, and each byte leads on to a state or to none. It
+-- finds the texts of the form and their trees (`form-exactly`), and the place of refusal 17 (`stop-exactly`).
 use Prim.Native.Nat.{ℕ, zero, suc, _+_, _-_, _*_}
 use mathlib.Core.Path.{_≡_}
 use mathlib.Core.Bool.{Bool, true, false}

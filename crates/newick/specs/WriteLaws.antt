@@ -68,8 +68,12 @@ module _ (n : ℕ) (r : List ℕ) (w : Wanted) (text : List ℕ) where
   unfolding writeChecks judgeChecks
   passed-to h =
       let t = wanted-to n r w (h .1 .0) in
-      let s = passed-split (rowChecks n r) (checkRoom bytes text ∷ []) (h .1 .1) in
-      (passed-valid n r (h .0, (t .0, s .0)), t .1, ltb-false (length text) (length bytes) (line-passes 3 (ltb (length text) (length bytes)) (s .1 .0)))
+      let s = passed-split (rowChecks n r) (checkRoom bytes text ∷ []) (h .1 .1) in (
+        passed-valid n r (h .0, (t .0, s .0)),
+        t .1,
+        ltb-false (length text) (length bytes)
+            (line-passes 3 (ltb (length text) (length bytes)) (s .1 .0)),
+      )
 
   passed-from : Valid n r → Fitting n w → length bytes ≤ length text → Passed checks
   unfolding writeChecks judgeChecks
@@ -77,7 +81,8 @@ module _ (n : ℕ) (r : List ℕ) (w : Wanted) (text : List ℕ) where
     p .0,
     (
       wanted-from n r w (ok .words) f,
-      passed-append (rowChecks n r) (checkRoom bytes text ∷ []) (p .1 .1) (line-pass 3 (ltb (length text) (length bytes)) (le-ltb (length text) (length bytes) h), tt),
+      passed-append (rowChecks n r) (checkRoom bytes text ∷ []) (p .1 .1)
+          (line-pass 3 (ltb (length text) (length bytes)) (le-ltb (length text) (length bytes) h), tt),
     ),
   )
 
@@ -97,7 +102,8 @@ module _ (n : ℕ) (r : List ℕ) (w : Wanted) (text : List ℕ) where
   -- no place reaches twice the words of the largest row
   pub writing-placed : Placed mostPlaces (writeChecks n r w text)
   unfolding writeChecks
-  writing-placed = placed-line mostPlaces 1 (outside fewestSamples mostSamples n) _ (omega arith) (λ e. size-placed w (samples-exactly n .0 e))
+  writing-placed = placed-line mostPlaces 1 (outside fewestSamples mostSamples n) _ (omega arith)
+      (λ e. size-placed w (samples-exactly n .0 e))
     where
       rest : Wanted → List Check
       rest v = rowChecks n r ++ (checkRoom (written n r v) text ∷ [])
@@ -108,7 +114,8 @@ module _ (n : ℕ) (r : List ℕ) (w : Wanted) (text : List ℕ) where
 
       size-placed : (v : Wanted) → (2 ≤ n) × (n ≤ 512) → Placed mostPlaces (check3Wanted n r v ∷ rest v)
       size-placed plain t = placed-line mostPlaces 3 (not (eqb (length r) (rowWords n))) _ (omega arith) (λ e. rest-placed plain t)
-      size-placed (with-words ws) t = placed-line mostPlaces 3 (not (eqb (length r) (rowWords n)) || not (eqb (length ws) (rowWords n))) _ (omega arith)
+      size-placed (with-words ws) t = placed-line mostPlaces 3 (not (eqb (length r) (rowWords n)) || not (eqb (length ws) (rowWords n)))
+          _ (omega arith)
           (λ e. rest-placed (with-words ws) t)
 
   module _ (k : ℕ) (e : writing n r w text .verdict ≡ wrote k) where

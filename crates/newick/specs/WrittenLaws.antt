@@ -20,6 +20,7 @@ use Rattle.trees.specs.MemberLaws.{in-none, in-head, in-tail, in-cases, member-
 use Rattle.trees.specs.WayLaws.{meets-refl}
 use Rattle.trees.specs.RowLaws.{Above, groups-in, no-leaf-above, valid-rooted}
 use Rattle.ascii.specs.Decimal.{decimal}
+use Rattle.newick.specs.Bytes.{closingByte, commaByte, openingByte}
 use Rattle.newick.specs.Tree.{Mark, Tree, Forest}
 use Rattle.newick.specs.Tree.Mark.{unmarked, marked}
 use Rattle.newick.specs.Tree.Tree.{leaf, pair}
@@ -93,18 +94,23 @@ module _ (n : ℕ) (r : List ℕ) where
     several = λ e. absurd (omega arith);
   }
 
-  meant-next : (cs : List ℕ) (c d p : ℕ) (l k : List ℕ) → MeantIn cs d p l → Meant c d (suc (p + length l)) k → MeantIn (cs ++ (c ∷ [])) d p (l ++ (44 ∷ k))
+  meant-next : (cs : List ℕ) (c d p : ℕ) (l k : List ℕ) → MeantIn cs d p l → Meant c d (suc (p + length l)) k
+      → MeantIn (cs ++ (c ∷ [])) d p (l ++ (commaByte ∷ k))
   unfolding samplesIn groupsIn lonelyIn lone
   meant-next cs c d p l k h g = record {
     forest = more (h .forest) (g .tree);
-    form = Subtrees.parted d p (l ++ (44 ∷ k)) l k (h .forest) (g .tree) refl (h .form) (g .form);
+    form = Subtrees.parted d p (l ++ (commaByte ∷ k)) l k (h .forest) (g .tree) refl (h .form) (g .form);
     stands = λ x. weigh-append (λ y. 1) (eqb x) (samplesIn (h .forest)) (samples (g .tree))
-        ∙ (let z : times x (samplesIn (h .forest)) + times x (samples (g .tree)) ≡ count (λ y. shows y x) cs + count (λ y. shows y x) (c ∷ []) = omega (arith, h .stands x, g .stands x, count-one (λ y. shows y x) c) in z)
+        ∙ (let z : times x (samplesIn (h .forest)) + times x (samples (g .tree)) ≡ count (λ y. shows y x) cs + count (λ y. shows y x)
+        (c ∷ []) = omega (arith, h .stands x, g .stands x, count-one (λ y. shows y x) c) in z)
         ∙ sym (weigh-append (λ y. 1) (λ y. shows y x) cs (c ∷ []));
-    sound = λ x m. ⊎-elim (h .sound x) (g .sound x) (or-cases (member x (groupsIn n (h .forest))) (member x (groupsOf n (g .tree))) (sym (member-append x (groupsIn n (h .forest)) (groupsOf n (g .tree))) ∙ m));
+    sound = λ x m. ⊎-elim (h .sound x) (g .sound x) (or-cases (member x (groupsIn n (h .forest))) (member x (groupsOf n (g .tree)))
+        (sym (member-append x (groupsIn n (h .forest)) (groupsOf n (g .tree))) ∙ m));
     whole = λ u j e. member-append (groupAt n r u) (groupsIn n (h .forest)) (groupsOf n (g .tree))
-        ∙ one-of (member (groupAt n r u) (groupsIn n (h .forest))) (member (groupAt n r u) (groupsOf n (g .tree))) (count (λ y. meets (nodes r) r y u) cs) (count (λ y. meets (nodes r) r y u) (c ∷ []))
-        (h .whole u j) (λ i. g .whole u j (found-one (λ y. meets (nodes r) r y u) c i)) (omega (arith, weigh-append (λ y. 1) (λ y. meets (nodes r) r y u) cs (c ∷ [])));
+        ∙ one-of (member (groupAt n r u) (groupsIn n (h .forest))) (member (groupAt n r u) (groupsOf n (g .tree)))
+        (count (λ y. meets (nodes r) r y u) cs) (count (λ y. meets (nodes r) r y u) (c ∷ []))
+        (h .whole u j) (λ i. g .whole u j (found-one (λ y. meets (nodes r) r y u) c i))
+        (omega (arith, weigh-append (λ y. 1) (λ y. meets (nodes r) r y u) cs (c ∷ [])));
     paired = rw (h .paired, g .paired) refl;
     several = λ e q. refl;
   }
@@ -113,18 +119,22 @@ module _ (n : ℕ) (r : List ℕ) where
       one-of a b zero j f e s = or-r a b (e (omega arith))
       one-of a b (suc i) j f e s = or-l a b (f (omega arith))
 
-  meant-more : (f : ℕ → List ℕ) (cs done : List ℕ) (d p : ℕ) (l : List ℕ) → MeantIn done d p l → ((c : ℕ) → List·Memᴰ c cs → (q : ℕ) → Meant c d q (f c)) → MeantIn (done ++ cs) d p (l ++ commas f cs)
+  meant-more : (f : ℕ → List ℕ) (cs done : List ℕ) (d p : ℕ) (l : List ℕ) → MeantIn done d p l
+      → ((c : ℕ) → List·Memᴰ c cs → (q : ℕ) → Meant c d q (f c)) → MeantIn (done ++ cs) d p (l ++ commas f cs)
   unfolding commas
   meant-more f [] done d p l h g = rw (append-nil done, append-nil l) h
   meant-more f (c ∷ cs) done d p l h g =
-      subst (λ (z : List ℕ). MeantIn z d p (l ++ (44 ∷ (f c ++ commas f cs)))) (append-snoc done c cs)
-      (subst (λ (z : List ℕ). MeantIn ((done ++ (c ∷ [])) ++ cs) d p z) (append-assoc l (44 ∷ f c) (commas f cs))
-      (meant-more f cs (done ++ (c ∷ [])) d p (l ++ (44 ∷ f c)) (meant-next done c d p l (f c) h (g c (List·Memᴰ·head refl) (suc (p + length l)))) (λ e m. g e (List·Memᴰ·tail m))))
+      subst (λ (z : List ℕ). MeantIn z d p (l ++ (commaByte ∷ (f c ++ commas f cs)))) (append-snoc done c cs)
+      (subst (λ (z : List ℕ). MeantIn ((done ++ (c ∷ [])) ++ cs) d p z) (append-assoc l (commaByte ∷ f c) (commas f cs))
+      (meant-more f cs (done ++ (c ∷ [])) d p (l ++ (commaByte ∷ f c))
+      (meant-next done c d p l (f c) h (g c (List·Memᴰ·head refl) (suc (p + length l)))) (λ e m. g e (List·Memᴰ·tail m))))
 
-  meant-list : (f : ℕ → List ℕ) (cs : List ℕ) (d p : ℕ) → 1 ≤ length cs → ((c : ℕ) → List·Memᴰ c cs → (q : ℕ) → Meant c d q (f c)) → MeantIn cs d p (listed f cs)
+  meant-list : (f : ℕ → List ℕ) (cs : List ℕ) (d p : ℕ) → 1 ≤ length cs → ((c : ℕ) → List·Memᴰ c cs → (q : ℕ) → Meant c d q (f c))
+      → MeantIn cs d p (listed f cs)
   unfolding listed
   meant-list f [] d p h g = absurd (omega arith)
-  meant-list f (c ∷ cs) d p h g = meant-more f cs (c ∷ []) d p (f c) (meant-only c d p (f c) (g c (List·Memᴰ·head refl) p)) (λ e m. g e (List·Memᴰ·tail m))
+  meant-list f (c ∷ cs) d p h g = meant-more f cs (c ∷ []) d p (f c) (meant-only c d p (f c) (g c (List·Memᴰ·head refl) p))
+      (λ e m. g e (List·Memᴰ·tail m))
 
 no-length : Length []
 no-length = Length.lengthless [] none
@@ -135,7 +145,8 @@ module _ (n : ℕ) (r : List ℕ) (ok : Valid n r) where
   shows-leaf : (s x : ℕ) → s < n → eqb x s ≡ shows n r s x
   shows-leaf s x h = true-eq (eqb x s) (shows n r s x)
       (λ e. rw (eqb-true x s e) (and-both (ltb s n) (meets (nodes r) r s s) (lt-ltb s n h) (meets-refl r (nodes r) s)))
-      (λ e. eq-eqb x s (no-leaf-above n r (valid-rooted n r ok) s x h (omega (arith, ltb-true x n (and-l (ltb x n) (meets (nodes r) r s x) e), ok .low)) (and-r (ltb x n) (meets (nodes r) r s x) e)))
+      (λ e. eq-eqb x s (no-leaf-above n r (valid-rooted n r ok) s x h
+      (omega (arith, ltb-true x n (and-l (ltb x n) (meets (nodes r) r s x) e), ok .low)) (and-r (ltb x n) (meets (nodes r) r s x) e)))
 
   stands-leaf : (s x : ℕ) → s < n → times x (s ∷ []) ≡ cond (shows n r s x) 1 0
   unfolding weigh
@@ -146,9 +157,11 @@ module _ (n : ℕ) (r : List ℕ) (ok : Valid n r) where
   meant-leaf s d p h =
       let e = group-same n r s (s ∷ []) (λ x. stands-leaf s x h) in record {
         tree = leaf s;
-        form = Subtree.a-sample d p (decimal s) [] (decimal s) [] s (sym (append-nil (decimal s))) none (decimal-sample s (omega (arith, ok .most))) no-length;
+        form = Subtree.a-sample d p (decimal s) [] (decimal s) [] s (sym (append-nil (decimal s))) none
+            (decimal-sample s (omega (arith, ok .most))) no-length;
         stands = λ x. stands-leaf s x h;
-        sound = λ g m. ⊎-elim (λ q. subst (λ (z : Group). In z (groups n r)) (sym (q ∙ e)) (groups-in n r s (omega (arith, ok .low)))) (λ q. absurd (in-none g q)) (in-cases g (groupOf n (s ∷ [])) [] m);
+        sound = λ g m. ⊎-elim (λ q. subst (λ (z : Group). In z (groups n r)) (sym (q ∙ e)) (groups-in n r s (omega (arith, ok .low))))
+            (λ q. absurd (in-none g q)) (in-cases g (groupOf n (s ∷ [])) [] m);
         whole = λ u k a. rw (no-leaf-above n r (valid-rooted n r ok) s u h k a, e) (in-head (groupAt n r s) []);
         paired = refl;
       }
@@ -159,18 +172,23 @@ module _ (n : ℕ) (r : List ℕ) (ok : Valid n r) where
   shows-count v x a h = go (decide (ltb x n))
     where
       go : (ltb x n ≡ true) ⊎ (ltb x n ≡ false) → count (λ c. shows n r c x) (childrenOf n r v) ≡ cond (shows n r v x) 1 0
-      go (inl e) = let k = ltb-true x n e in rw e (count-child n r ok v (λ c. meets (nodes r) r c x) ∙ child-once n r ok v x h (omega (arith, ok .low)) (λ q. omega arith))
+      go (inl e) = let k = ltb-true x n e in rw e (count-child n r ok v (λ c. meets (nodes r) r c x)
+          ∙ child-once n r ok v x h (omega (arith, ok .low)) (λ q. omega arith))
       go (inr e) = rw e (weigh-none (λ c. 1) (λ c. false) (childrenOf n r v) (λ c m. refl))
 
-  meant-pair : (v d p : ℕ) (l s : List ℕ) (μ : Mark) → n ≤ v → v < nodes r → MeantIn n r (childrenOf n r v) d (suc p) l → Support s μ → Meant n r v (suc d) p (40 ∷ (l ++ (41 ∷ s)))
+  meant-pair : (v d p : ℕ) (l s : List ℕ) (μ : Mark) → n ≤ v → v < nodes r → MeantIn n r (childrenOf n r v) d (suc p) l → Support s μ
+      → Meant n r v (suc d) p (openingByte ∷ (l ++ (closingByte ∷ s)))
   unfolding samples groupsOf lonely
   meant-pair v d p l s μ a h k z =
       let st : (x : ℕ) → times x (samplesIn (k .forest)) ≡ cond (shows n r v x) 1 0 = λ x. k .stands x ∙ shows-count v x a h in
       let e = group-same n r v (samplesIn (k .forest)) st in record {
         tree = pair p (k .forest) μ;
-        form = Subtree.a-pair d p p (40 ∷ (l ++ (41 ∷ s))) [] l s [] (k .forest) μ (rw (append-nil s) refl) (sym (add-zero p)) none (k .form) z no-length;
+        form = Subtree.a-pair d p p (openingByte ∷ (l ++ (closingByte ∷ s))) [] l s [] (k .forest) μ (rw (append-nil s) refl)
+            (sym (add-zero p)) none
+            (k .form) z no-length;
         stands = st;
-        sound = λ g m. ⊎-elim (λ q. subst (λ (z : Group). In z (groups n r)) (sym (q ∙ e)) (groups-in n r v h)) (k .sound g) (in-cases g (groupOf n (samplesIn (k .forest))) (groupsIn n (k .forest)) m);
+        sound = λ g m. ⊎-elim (λ q. subst (λ (z : Group). In z (groups n r)) (sym (q ∙ e)) (groups-in n r v h)) (k .sound g)
+            (in-cases g (groupOf n (samplesIn (k .forest))) (groupsIn n (k .forest)) m);
         whole = λ u j b. below u j b e (decide (eqb u v));
         paired = rw (k .paired, k .several (omega (arith, length-child n r ok v, ok .two v a h)) p) refl;
       }
@@ -179,7 +197,12 @@ module _ (n : ℕ) (r : List ℕ) (ok : Valid n r) where
           → In (groupAt n r u) (groupOf n (samplesIn (k .forest)) ∷ groupsIn n (k .forest))
       below u j b e (inl q) = rw (e, eqb-true u v q) (in-head (groupAt n r v) (groupsIn n (k .forest)))
       below u j b e (inr q) = in-tail (groupAt n r u) (groupOf n (samplesIn (k .forest))) (groupsIn n (k .forest)) (k .whole u j
-          (omega (arith, count-child n r ok v (λ c. meets (nodes r) r c u), child-once n r ok v u h j (eqb-false u v q), one (meets (nodes r) r v u) b)))
+          (omega (
+            arith,
+            count-child n r ok v (λ c. meets (nodes r) r c u),
+            child-once n r ok v u h j (eqb-false u v q),
+            one (meets (nodes r) r v u) b,
+          )))
         where
           one : (t : Bool) → t ≡ true → _≡_ {A = ℕ} (cond t 1 0) 1
           one t i = rw i refl
@@ -198,12 +221,14 @@ module _ (n : ℕ) (r : List ℕ) (ok : Valid n r) where
 
     pub meant : (f d v p : ℕ) → v < nodes r → pairsAt n r ok v ≤ f → pairsAt n r ok v ≤ d → Meant n r v d p (nodeText f n r w v)
     unfolding nodeText
-    meant zero d v p h a b = meant-leaf v d p (⊎-elim (ltb-true v n) (λ e. absurd (omega (arith, pairs-some n r ok v (ltb-false v n e) h))) (decide (ltb v n)))
+    meant zero d v p h a b = meant-leaf v d p (⊎-elim (ltb-true v n)
+        (λ e. absurd (omega (arith, pairs-some n r ok v (ltb-false v n e) h))) (decide (ltb v n)))
     meant (suc f) d v p h a b = go d b (decide (ltb v n)) (λ c e q k l m. meant f e c q k l m)
       where
         go : (d : ℕ) → pairsAt n r ok v ≤ d → (ltb v n ≡ true) ⊎ (ltb v n ≡ false)
             → ((c e q : ℕ) → c < nodes r → pairsAt n r ok c ≤ f → pairsAt n r ok c ≤ e → Meant n r c e q (nodeText f n r w c))
-            → Meant n r v d p (cond (ltb v n) (decimal v) (40 ∷ (listed (nodeText f n r w) (childrenOf n r v) ++ (41 ∷ markText r w v))))
+            → Meant n r v d p (cond (ltb v n) (decimal v) (openingByte ∷
+            (listed (nodeText f n r w) (childrenOf n r v) ++ (closingByte ∷ markText r w v))))
         go d b (inl e) g = rw e (meant-leaf v d p (ltb-true v n e))
         go zero b (inr e) g = absurd (omega (arith, pairs-some n r ok v (ltb-false v n e) h))
         go (suc d) b (inr e) g =
@@ -211,5 +236,6 @@ module _ (n : ℕ) (r : List ℕ) (ok : Valid n r) where
             let t = mark-support v in
             rw e (meant-pair v d p (listed (nodeText f n r w) (childrenOf n r v)) (markText r w v) (t .0) i h
             (meant-list n r (nodeText f n r w) (childrenOf n r v) d (suc p) (omega (arith, length-child n r ok v, ok .two v i h))
-            (λ c m q. let k = in-child n r ok v c m in let j = pairs-fall n r ok c v (k .0) i h (k .1) in g c d q (k .0) (omega arith) (omega arith)))
+            (λ c m q. let k = in-child n r ok v c m in let j = pairs-fall n r ok c v (k .0) i h (k .1) in
+            g c d q (k .0) (omega arith) (omega arith)))
             (t .1))
