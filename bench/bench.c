@@ -140,8 +140,7 @@ static void measure_studies(void) {
 }
 
 static void measure_calls(const struct table *t) {
-    measure_table(t, RANDOM);
-    measure_table(t, CATERPILLAR);
+    for (enum shape shape = RANDOM; shape <= CHAIN; shape++) measure_table(t, shape);
 }
 
 int main(int argc, char **argv) {

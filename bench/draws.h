@@ -1,7 +1,7 @@
 // Trees drawn at random, with the same draws each time: first what runs have in common, then what is a run's own.
 #pragma once
 #include "words.h"
-enum shape { RANDOM, CATERPILLAR };
+enum shape { RANDOM, CATERPILLAR, BRANCHED, CHAIN };
 
 // What runs have in common comes in parts, one upon the other: what all runs hold, what four in five hold, what three in five hold.
 enum { PARTS = 3, TURNS = 5 };

@@ -10,4 +10,7 @@ static double now(void) {
     return t.tv_sec + 1e-9 * t.tv_nsec;
 }
 
-static const char *name_of(enum shape shape) { return shape == RANDOM ? "Random trees" : "Caterpillars"; }
+static const char *name_of(enum shape shape) {
+    static const char *const names[] = {"Random trees", "Caterpillars", "Random trees with single branches", "Chains above one sample"};
+    return names[shape];
+}

@@ -68,6 +68,8 @@ static void draw_rows(enum shape shape) {
     draw_parts(parts, shape, n, alike);
     for (int i = 0; i < ROWS; i++) {
         draw_row(*part_of(parts, i), shape, n, rows[i]);
+        if (shape == BRANCHED) branch_third(rows[i], n);
+        if (shape == CHAIN) branch_chain(rows[i], n);
         shuffle_inner(rows[i], n);
         expect(i, 0);
     }
@@ -81,7 +83,7 @@ static void hold_first_row(void) {
 // Contracts every second row, so that the two rows of a comparison differ in their nodes.
 static void contract_rows(void) {
     for (int i = 0; i < ROWS; i += 2) {
-        contract(rows[i], n);
+        contract(rows[i], n, CONTRACTED);
         expect(i, 0);
     }
 }

@@ -32,7 +32,7 @@ static u64 supports_by_plain(int i) { return plain_write(row_of(i), supports[i %
 // The numbers that the answers of a line have to come to, and those that came.
 #define NUMBER(x) (1u << (x))
 enum {
-    READING = NUMBER(0) | NUMBER(ARB_REFUSAL_CHILDREN) | NUMBER(ARB_REFUSAL_FORM) | NUMBER(ARB_REFUSAL_LEAVES),
+    READING = NUMBER(0) | NUMBER(ARB_REFUSAL_FORM) | NUMBER(ARB_REFUSAL_LEAVES),
     REFUSING = NUMBER(ARB_REFUSAL_LEAVES),
     OF_ROWS = NUMBER(ARB_REFUSAL_CHILDREN + 1) - NUMBER(ARB_REFUSAL_NODES),
     WRITING = NUMBER(0) | NUMBER(ARB_REFUSAL_WORDS) | OF_ROWS

@@ -10,14 +10,17 @@
  *     word 1+v, v below m     the parent of node v: an inner node, or ARB_ROOT_MARK where v is the root, which is an inner node too
  *     all others              0, as filler
  *
- * There is one root, each node leads up to it, and each inner node has two children or more. Inner nodes of a row that you hand in may
- * be numbered in any order. To the group of a node belong the samples that are the node itself or stand below it; two rows are the same tree
- * if they have the same groups. Rows that the library writes or stores are in standard numbering: inner nodes get their numbers, from n on,
- * in the order of their groups, larger ones first, and of groups with the same size the one with the smaller smallest sample first. So the
- * root is node n, and the same tree has the same words. The tree ((0,1),2), n = 3:
+ * There is one root, each node leads up to it, and each inner node has a child. Inner nodes of a row that you hand in may be numbered in any
+ * order, and may have one child each. To the group of a node belong the samples that are the node itself or stand below it; two rows are the
+ * same tree if they have the same groups. Rows that the library writes or stores are in standard numbering: inner nodes get their numbers,
+ * from n on, in the order of their groups, larger ones first, and of groups with the same size the one with the smaller smallest sample first;
+ * each group has one node, so that no inner node has one child. So the root is node n, and the same tree has the same words. The tree
+ * ((0,1),2), n = 3:
  *
  *     5 4 4 3 65535 3     in standard numbering: 3 is the root, and 4, the parent of samples 0 and 1, stands below it
  *     5 3 3 4 4 65535     the same tree with 3 and 4 the other way round
+ *
+ * And a row with a single branch: 5 4 3 3 65535 3 has node 4 above sample 0 alone, and becomes 4 3 3 3 65535 0 in standard numbering.
  *
  * STUDIES (RULES 6). A study is a buffer of yours that holds runs, each under an identifier from 1 to 65535 that you choose. Those that were
  * added and not withdrawn are in force, and there can be 1024 of these. A study needs ARB_STUDY_WORDS(n, runs) words, and has room for
@@ -42,7 +45,7 @@
  * A text is one subtree and a semicolon. A subtree is a sample, in one to five digits of which the first is not 0 if more follow, or a pair:
  * one subtree or several in round brackets, with commas between them. At most 511 brackets are open at once. Behind a closing bracket digits
  * may stand, a support say, and behind any subtree a colon and a length: digits, with at most one point among them, which has a digit on each
- * side. Reading drops both. Blanks, which are space, tab, CR and LF, may stand before and behind all of these, but not inside a number.
+ * side. Reading drops both, and the brackets of a pair that holds one subtree. Blanks, which are space, tab, CR and LF, may stand before and behind all of these, but not inside a number.
  * Nothing else is of the form: no names, quotes or comments, no signs, no exponents. A text is counted in bytes and has no end mark: a 0 byte
  * is not of the form either. Any bytes may be handed in, and any number of them. What is written has no blanks, and the children of a node
  * stand in it by their smallest samples.
@@ -109,8 +112,7 @@ enum arb_refusal {
     ARB_REFUSAL_ROOT = 7,       /* of the inner nodes none, or more than one, has 65535 for its parent */
     ARB_REFUSAL_FILLER = 8,     /* a word of the filler is not 0; place: the lowest word of which this is so */
     ARB_REFUSAL_LOST = 9,       /* the way up from a node never comes to the root; place: the lowest node of which this is so */
-    ARB_REFUSAL_CHILDREN = 10,  /* an inner node has one child or none; place: the lowest node of which this is so. Of a text that is read: a pair
-                                   holds one subtree; place: the opening byte of the first such pair */
+    ARB_REFUSAL_CHILDREN = 10,  /* an inner node has no child at all; place: the lowest node of which this is so */
     ARB_REFUSAL_TAKEN = 11,     /* a run with this identifier is in force */
     ARB_REFUSAL_FULL = 12,      /* no room: as many runs are in force as the buffer holds, or 1024 */
     ARB_REFUSAL_ABSENT = 13,    /* no run with this identifier is in force */
@@ -158,8 +160,8 @@ uint64_t arb_renumber(size_t n, const uint16_t *row, size_t row_length, uint16_t
 uint64_t arb_compare(size_t n, const uint16_t *first, size_t first_length, const uint16_t *second, size_t second_length);
 
 /* Reading Newick: writes the tree of a text over n samples to `out`, 2n words, in standard numbering. In the text each sample stands once and
-   no other number does, and each pair holds two subtrees or more. `text` is not written.
-   Refusals: 1, 3 for `out`, 17, 18, 10. Stack: 93,184 bytes. */
+   no other number does; pairs that hold one subtree add nothing. `text` is not written.
+   Refusals: 1, 3 for `out`, 17, 18. Stack: 93,184 bytes. */
 uint64_t arb_read_newick(size_t n, const uint8_t *text, size_t text_length, uint16_t *out, size_t out_length);
 
 /* Writing Newick: puts the text of a row, in any numbering, to the front of `text`, and answers how many bytes it has (ARB_LENGTH). Nothing is

@@ -51,9 +51,10 @@ CASE = file_of(
 LISTING = "ARB 1 5 3\n5 - 3 0 1 2 3 4\n6 5 2 0 1 2\n7 6 2 0 1\n8 5 2 3 4\n"
 LISTED = Came(0, LISTING)
 
-# Slots over three samples, the trees ((0,1),2) and ((0,2),1), and over two the only tree.
+# Slots over three samples, the trees ((0,1),2) and ((0,2),1), and ((0),1,2) with a node above one sample; and over two the only tree.
 ONE = (7, 5, 4, 4, 3, ROOT, 3)
 TWO = (8, 5, 4, 3, 4, ROOT, 3)
+SINGLE = (9, 5, 4, 3, 3, ROOT, 3)
 PAIRS = [(identifier, 3, 2, 2, ROOT) for identifier in range(1, 6553)]
 
 # Files that are refused: what `refused` says of them, and what is said in words.
@@ -80,13 +81,8 @@ REFUSED = [
     ("9 2 4", file_of(3, ONE, TWO, (9, 5, 3, 3, 3, ROOT, 4)), "slot 2 (the 3rd run), node 4: its parents never reach the root"),
     (
         "10 3 4",
-        file_of(3, ONE, TWO, (9, *ONE[1:]), (10, 5, 4, 3, 3, ROOT, 3)),
-        "slot 3 (the 4th run), node 4: it has one child; an inner node has to have two or more",
-    ),
-    (
-        "10 0 4",
-        file_of(3, (9, 5, 3, 3, 3, ROOT, 3)),
-        "slot 0 (the 1st run), node 4: it has no child; an inner node has to have two or more",
+        file_of(3, ONE, TWO, SINGLE, (10, 5, 3, 3, 3, ROOT, 3)),
+        "slot 3 (the 4th run), node 4: it has no child; an inner node has to have one or more",
     ),
     ("11 2 0", file_of(3, ONE, TWO, ONE), "slot 2 (the 3rd run): its identifier, 7, is already that of slot 0 (the 1st run)"),
     ("11 12 0", file_of(2, *PAIRS[:12], PAIRS[10]), "slot 12 (the 13th run): its identifier, 11, is already that of slot 10 (the 11th run)"),
@@ -128,6 +124,7 @@ def test_inputs(trials: Trials, folder: Path) -> None:
     trials.expect("a file by its whole name", LISTED, run(LIST, folder / NAME, folder=inner))
     trials.expect("list by a link", LISTED, run("./list", f"../{NAME}", folder=inner))
     trials.expect("standard input", LISTED, run(LIST, "-", given=CASE))
+    trials.expect("a single branch", Came(0, "ARB 1 3 1\n3 - 1 0 1 2\n"), run(LIST, "-", given=file_of(3, SINGLE)))
     too_long = "list: standard input: the length is wrong: more than 65,529 bytes; at most 65,529 are allowed\n"
     trials.expect("standard input without end", Came(1, "refused 15 0 0\n", too_long), run(LIST, "-", given=head(2, 6553) + bytes(999999)))
     for name, reason in (("in ner", "Is a directory"), ("none", "No such file or directory"), ("/proc/self/mem", "Input/output error")):

@@ -27,6 +27,7 @@ struct example {
 };
 
 #define OLD_6 9, 9, 9, 9, 9, 9
+#define OLD_8 OLD_6, 9, 9
 #define OLD_10 OLD_6, 9, 9, 9, 9
 #define HEADER(n, k) 65, 82, 66, 1, n, k, 0, 0
 
@@ -35,6 +36,8 @@ struct example {
 #define STUDY_3(...) {ARB_STUDY_WORDS(3, 2), {__VA_ARGS__}}
 #define ROW_5(...) {ARB_ROW_WORDS(5), {__VA_ARGS__}}
 #define ROW_3(...) {ARB_ROW_WORDS(3), {__VA_ARGS__}}
+#define ROW_4(...) {ARB_ROW_WORDS(4), {__VA_ARGS__}}
+#define STUDY_4(...) {ARB_STUDY_WORDS(4, 2), {__VA_ARGS__}}
 #define NONE {0, {0}}
 
 #define CASE_0 STUDY_5(HEADER(5, 0))
@@ -95,6 +98,25 @@ static const struct example accepted[] = {
     {"the bare tree is compared with another", COMPARE, 3, COUNTED(0, 0, 1), {ROW_3(BARE_3), ROW_3(WITH_01)}},
     {"the bare tree is compared with itself", COMPARE, 3, COUNTED(0, 0, 0), {ROW_3(BARE_3), ROW_3(BARE_3)}},
     {"the only tree of 2 is compared with itself", COMPARE, 2, COUNTED(0, 0, 0), {{4, {ONLY_OF_2}}, {4, {ONLY_OF_2}}}},
+
+    {"a node above one sample is valid", JUDGE, 3, ACCEPTED, {ROW_3(BRANCH_0)}},
+    {"a chain at the root is valid", JUDGE, 3, ACCEPTED, {ROW_3(CHAIN_ROOT)}},
+    {"a chain in the middle is valid", JUDGE, 4, ACCEPTED, {ROW_4(CHAIN_01)}},
+    {"two nodes above one sample are valid", JUDGE, 4, ACCEPTED, {ROW_4(7, 6, 4, 4, 4, ROOT, 4, 5)}},
+    {"a node above one sample is taken out", RENUMBER, 3, ACCEPTED, {ROW_3(BRANCH_0), ROW_3(OLD_6)}, {NONE, ROW_3(BARE_3)}},
+    {"a chain at the root is taken out", RENUMBER, 3, ACCEPTED, {ROW_3(CHAIN_ROOT), ROW_3(OLD_6)}, {NONE, ROW_3(BARE_3)}},
+    {"a chain in the middle is taken out", RENUMBER, 4, ACCEPTED, {ROW_4(CHAIN_01), ROW_4(OLD_8)}, {NONE, ROW_4(WITH_01_OF_4)}},
+    {"two nodes above one sample are taken out", RENUMBER, 4, ACCEPTED, {ROW_4(7, 6, 4, 4, 4, ROOT, 4, 5), ROW_4(OLD_8)},
+        {NONE, ROW_4(5, 4, 4, 4, 4, ROOT, 0, 0)}},
+    {"a chain is compared with what it becomes", COMPARE, 4, COUNTED(1, 0, 0), {ROW_4(CHAIN_01), ROW_4(WITH_01_OF_4)}},
+    {"it is compared with a chain", COMPARE, 4, COUNTED(1, 0, 0), {ROW_4(WITH_01_OF_4), ROW_4(CHAIN_01)}},
+    {"a chain is compared with the bare tree", COMPARE, 4, COUNTED(0, 1, 0), {ROW_4(CHAIN_01), ROW_4(5, 4, 4, 4, 4, ROOT, 0, 0)}},
+    {"single branches add no group", COMPARE, 3, COUNTED(0, 0, 0), {ROW_3(BRANCH_0), ROW_3(CHAIN_ROOT)}},
+    {"a chain is added without its second node", ADD, 2, ACCEPTED, {STUDY_4(HEADER(4, 0)), ROW_4(CHAIN_01)}, {STUDY_4(HEADER(4, 1), 2, WITH_01_OF_4)}},
+    {"the same tree without the chain is added as the same words", ADD, 1, ACCEPTED, {STUDY_4(HEADER(4, 1), 2, WITH_01_OF_4), ROW_4(WITH_01_OF_4)},
+        {STUDY_4(HEADER(4, 2), 1, WITH_01_OF_4, 2, WITH_01_OF_4)}},
+    {"a node above one sample is added without it", ADD, 7, ACCEPTED, {STUDY_3(HEADER(3, 1), 6, WITH_01), ROW_3(BRANCH_0)},
+        {STUDY_3(HEADER(3, 2), 6, WITH_01, 7, BARE_3)}},
 };
 
 static const struct example refused[] = {
@@ -109,15 +131,19 @@ static const struct example refused[] = {
     {"add: no study", ADD, 1, REFUSED(2, 0), {NONE, ROW_3(WITH_01)}},
     {"add: a row of 2n - 1 words, and identifier 0", ADD, 0, REFUSED(3, 0), {STUDY_3(HEADER(3, 0)), {5, {WITH_01}}}},
     {"add: a row of 2n + 1 words", ADD, 1, REFUSED(3, 0), {STUDY_3(HEADER(3, 0)), {7, {WITH_01}}}},
-    {"add: identifier 0, and a bad row", ADD, 0, REFUSED(4, 0), {STUDY_3(HEADER(3, 0)), ROW_3(ONE_CHILD)}},
-    {"add: a bad row, and an identifier in force", ADD, 6, REFUSED(10, 4), {STUDY_3(HEADER(3, 1), 6, WITH_01), ROW_3(ONE_CHILD)}},
+    {"add: identifier 0, and a bad row", ADD, 0, REFUSED(4, 0), {STUDY_3(HEADER(3, 0)), ROW_3(NO_CHILD)}},
+    {"add: a bad row, and an identifier in force", ADD, 6, REFUSED(10, 4), {STUDY_3(HEADER(3, 1), 6, WITH_01), ROW_3(NO_CHILD)}},
     {"add: an identifier in force", ADD, 6, REFUSED(11, 0), {STUDY_3(HEADER(3, 1), 6, WITH_01), ROW_3(WITH_02)}},
     {"add: an identifier in force, and no room", ADD, 6, REFUSED(11, 0), {STUDY_3(HEADER(3, 2), 5, WITH_02, 6, WITH_01), ROW_3(WITH_02)}},
+    {"add: a stored node above one sample", ADD, 7, REFUSED(2, 0), {STUDY_3(HEADER(3, 1), 6, BRANCH_0), ROW_3(WITH_02)}},
+    {"add: a single branch, and an identifier in force", ADD, 6, REFUSED(11, 0), {STUDY_3(HEADER(3, 1), 6, WITH_01), ROW_3(BRANCH_0)}},
     {"add: no room", ADD, 7, REFUSED(12, 0), {STUDY_3(HEADER(3, 2), 5, WITH_02, 6, WITH_01), ROW_3(WITH_02)}},
     {"add: a word too few for a second run", ADD, 7, REFUSED(12, 0), {{21, {HEADER(3, 1), 6, WITH_01}}, ROW_3(WITH_02)}},
 
     {"withdraw: a word after the last slot, and identifier 0", WITHDRAW, 0, REFUSED(2, 0), {STUDY_3(HEADER(3, 1), 6, WITH_01, 1)}},
     {"withdraw: a row in another numbering", WITHDRAW, 6, REFUSED(2, 0), {STUDY_3(HEADER(3, 1), 6, WITH_01_OTHERWISE)}},
+    {"withdraw: a stored node above one sample", WITHDRAW, 6, REFUSED(2, 0), {STUDY_3(HEADER(3, 1), 6, BRANCH_0)}},
+    {"withdraw: a stored chain", WITHDRAW, 6, REFUSED(2, 0), {STUDY_3(HEADER(3, 1), 6, CHAIN_ROOT)}},
     {"withdraw: identifier 0", WITHDRAW, 0, REFUSED(4, 0), {STUDY_3(HEADER(3, 1), 6, WITH_01)}},
     {"withdraw: an identifier not in force", WITHDRAW, 7, REFUSED(13, 0), {STUDY_3(HEADER(3, 1), 6, WITH_01)}},
     {"withdraw: no run in force", WITHDRAW, 6, REFUSED(13, 0), {STUDY_3(HEADER(3, 0))}},
@@ -125,6 +151,7 @@ static const struct example refused[] = {
     {"report: another version, and short outputs", REPORT, 0, REFUSED(2, 0), {STUDY_3(65, 82, 66, 2, 3), NONE, NONE}},
     {"report: a short agreed row, and k is 0", REPORT, 0, REFUSED(3, 0), {STUDY_3(HEADER(3, 0)), {5, {OLD_6}}, ROW_3(OLD_6)}},
     {"report: a long support row", REPORT, 0, REFUSED(3, 0), {STUDY_3(HEADER(3, 1), 6, WITH_01), ROW_3(OLD_6), {7, {OLD_6, 9}}}},
+    {"report: a stored node above one sample", REPORT, 0, REFUSED(2, 0), {STUDY_3(HEADER(3, 1), 6, BRANCH_0), ROW_3(OLD_6), ROW_3(OLD_6)}},
     {"report: k is 0", REPORT, 0, REFUSED(14, 0), {STUDY_3(HEADER(3, 0)), ROW_3(OLD_6), ROW_3(OLD_6)}},
     {"report: another version, and p is 49", REPORT, 49, REFUSED(2, 0), {STUDY_3(65, 82, 66, 2, 3), ROW_3(OLD_6), ROW_3(OLD_6)}},
     {"report: a short support row, and p is 49", REPORT, 49, REFUSED(3, 0), {STUDY_3(HEADER(3, 0)), ROW_3(OLD_6), {5, {OLD_6}}}},
@@ -133,19 +160,21 @@ static const struct example refused[] = {
 
     {"judge: n is 1, and no row", JUDGE, 1, REFUSED(1, 0), {NONE}},
     {"judge: n is 513", JUDGE, 513, REFUSED(1, 0), {ROW_3(WITH_01)}},
-    {"judge: a row of 2n - 1 words", JUDGE, 3, REFUSED(3, 0), {{5, {ONE_CHILD}}}},
+    {"judge: a single branch too many, 2n nodes", JUDGE, 4, REFUSED(5, 0), {ROW_4(8, 6, 6, 4, 4, 7, 4, 5)}},
+    {"judge: a chain, and a node without a child", JUDGE, 4, REFUSED(10, 6), {ROW_4(7, 5, 5, 5, 5, ROOT, 4, 5)}},
+    {"judge: a row of 2n - 1 words", JUDGE, 3, REFUSED(3, 0), {{5, {NO_CHILD}}}},
     {"judge: a row of 2n + 1 words", JUDGE, 3, REFUSED(3, 0), {{7, {WITH_01}}}},
 
     {"renumber: n is 1", RENUMBER, 1, REFUSED(1, 0), {ROW_3(WITH_01), NONE}},
     {"renumber: n is 513", RENUMBER, 513, REFUSED(1, 0), {ROW_3(WITH_01), ROW_3(OLD_6)}},
-    {"renumber: a short row", RENUMBER, 3, REFUSED(3, 0), {{5, {ONE_CHILD}}, ROW_3(OLD_6)}},
-    {"renumber: a long output, and a bad row", RENUMBER, 3, REFUSED(3, 0), {ROW_3(ONE_CHILD), {7, {OLD_6, 9}}}},
+    {"renumber: a short row", RENUMBER, 3, REFUSED(3, 0), {{5, {NO_CHILD}}, ROW_3(OLD_6)}},
+    {"renumber: a long output, and a bad row", RENUMBER, 3, REFUSED(3, 0), {ROW_3(NO_CHILD), {7, {OLD_6, 9}}}},
 
     {"compare: n is 1", COMPARE, 1, REFUSED(1, 0), {ROW_3(WITH_01), NONE}},
     {"compare: n is 513", COMPARE, 513, REFUSED(1, 0), {ROW_3(WITH_01), ROW_3(WITH_02)}},
     {"compare: a short first row", COMPARE, 3, REFUSED(3, 0), {{5, {WITH_01}}, ROW_3(WITH_02)}},
-    {"compare: a long second row, and a bad first", COMPARE, 3, REFUSED(3, 0), {ROW_3(ONE_CHILD), {7, {WITH_02}}}},
-    {"compare: two bad rows", COMPARE, 3, REFUSED(10, 4), {ROW_3(ONE_CHILD), ROW_3(5, 2, 3, 3, ROOT, 3)}},
+    {"compare: a long second row, and a bad first", COMPARE, 3, REFUSED(3, 0), {ROW_3(NO_CHILD), {7, {WITH_02}}}},
+    {"compare: two bad rows", COMPARE, 3, REFUSED(10, 4), {ROW_3(NO_CHILD), ROW_3(5, 2, 3, 3, ROOT, 3)}},
 };
 
 // Rows of 3 samples that are refused, with number and place.
@@ -162,11 +191,8 @@ static const struct bad_row {
     {9, 2, ROW_3(5, 3, 3, 4, ROOT, 4)},
     {9, 3, ROW_3(5, 4, 4, 4, 3, ROOT)},
     {9, 4, ROW_3(5, 3, 3, 3, ROOT, 4)},
-    {10, 3, ROW_3(5, 4, 4, 4, ROOT, 3)},
     {10, 3, ROW_3(5, 4, 4, 4, 4, ROOT)},
-    {10, 4, ROW_3(ONE_CHILD)},
-    {10, 4, ROW_3(5, 3, 3, 3, ROOT, 3)},
-    {10, 4, ROW_3(5, 3, 3, 3, 4, ROOT)},
+    {10, 4, ROW_3(NO_CHILD)},
 };
 
 // Thresholds that are refused (RULES 5.7); of some the low 8, 16 or 32 bits would be accepted.
@@ -284,6 +310,21 @@ static void test_deepest(void) {
     check("it is compared with itself", same_answer(COUNTED(END, 0, 0), arb_compare(WIDE, chain_down, WIDE_ROW, chain_up, WIDE_ROW)));
     check("it is compared with the bare tree", same_answer(COUNTED(0, END, 0), arb_compare(WIDE, chain_up, WIDE_ROW, wide_rows[0], WIDE_ROW)));
     check("{0,1} is compared with it", same_answer(COUNTED(1, 0, END - 1), arb_compare(WIDE, wide_rows[1], WIDE_ROW, chain_up, WIDE_ROW)));
+}
+
+// The longest chain above one sample, and the longest at the root: only the bare tree is left of them.
+static void test_longest_chains(void) {
+    static uint16_t chain[WIDE_ROW], out[WIDE_ROW];
+    for (int below = 0; below <= 1; below++) {
+        chain[0] = LAST + 1;
+        for (int v = 0; v < WIDE; v++) chain[1 + v] = below ? LAST : WIDE;
+        chain[1 + WIDE - 1] = LAST;
+        for (int v = WIDE; v <= LAST; v++) chain[1 + v] = v == WIDE ? ROOT : v - 1;
+        uint64_t answer = arb_renumber(WIDE, chain, WIDE_ROW, out, WIDE_ROW);
+        check("the longest chain is valid", same_answer(ACCEPTED, arb_judge(WIDE, chain, WIDE_ROW)));
+        check("the longest chain is taken out", same_answer(ACCEPTED, answer) && memcmp(out, wide_rows[0], sizeof out) == 0);
+        check("the longest chain adds no group", same_answer(COUNTED(0, 0, 1), arb_compare(WIDE, chain, WIDE_ROW, wide_rows[1], WIDE_ROW)));
+    }
 }
 
 // Whether every call that takes a row refuses this one, of 512 samples; comparing, in either place.
@@ -422,6 +463,7 @@ int main(void) {
     test_most_samples();
     write_chains();
     test_deepest();
+    test_longest_chains();
     test_wrong_chains();
     for (size_t i = 0; i < COUNT(large_ns); i++) test_large_n(&large_ns[i]);
     test_most_runs(ARB_STUDY_WORDS(2, ARB_MOST_RUNS));

@@ -13,10 +13,16 @@
 #define SUPPORT_BY_ALL 3, 3, 3, 3, 3, 3, 3, 0, 0, 0
 
 // Of 2 and of 3 samples: the only tree of 2; with the group {0,1}, the same in another numbering, with {0,2}, with neither; and one
-// whose node 4 has one child.
+// whose node 4 has no child.
 #define ONLY_OF_2 3, 2, 2, ROOT
 #define WITH_01 5, 4, 4, 3, ROOT, 3
 #define WITH_01_OTHERWISE 5, 3, 3, 4, 4, ROOT
 #define WITH_02 5, 4, 3, 4, ROOT, 3
 #define BARE_3 4, 3, 3, 3, ROOT, 0
-#define ONE_CHILD 5, 4, 3, 3, ROOT, 3
+#define NO_CHILD 5, 3, 3, 3, ROOT, 3
+
+// Single branches (RULES 10.15): node 4 above sample 0, and a chain at the root; of 4 samples a chain above {0,1}, and the same tree without.
+#define BRANCH_0 5, 4, 3, 3, ROOT, 3
+#define CHAIN_ROOT 5, 4, 4, 4, ROOT, 3
+#define CHAIN_01 7, 6, 6, 4, 4, ROOT, 4, 5
+#define WITH_01_OF_4 6, 5, 5, 4, 4, ROOT, 4, 0

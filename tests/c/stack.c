@@ -74,13 +74,14 @@ static const struct size {
     {ARB_MOST_SAMPLES, 0}, {ARB_MOST_SAMPLES, ONE}, {ARB_MOST_SAMPLES, SEVERAL},
 };
 
-// Trees: their shape, and whether the numbers of inner nodes rise on the way up or are shuffled.
-enum shape { BUSH, CATERPILLAR, RANDOM };
+// Trees: their shape, and whether the numbers of inner nodes rise on the way up or are shuffled. A chain is a bush with as many single branches above
+// sample 0 as there may be.
+enum shape { BUSH, CATERPILLAR, RANDOM, CHAIN };
 enum numbers { RISING, SHUFFLED };
 static const struct tree {
     enum shape shape;
     enum numbers numbers;
-} trees[] = {{BUSH, RISING}, {CATERPILLAR, RISING}, {CATERPILLAR, SHUFFLED}, {RANDOM, SHUFFLED}};
+} trees[] = {{BUSH, RISING}, {CATERPILLAR, RISING}, {CATERPILLAR, SHUFFLED}, {RANDOM, SHUFFLED}, {CHAIN, RISING}, {CHAIN, SHUFFLED}};
 
 // What is changed in an input that is in order.
 enum part { NOTHING, N, P, STUDY_MARK, STUDY_ROW, STUDY_END, STUDY_SHORT, STUDY_FULL, ROW_LENGTH, OUT_LENGTH, SUPPORT_LENGTH, NO_IDENTIFIER,
@@ -130,7 +131,7 @@ static const struct change {
     {TEXT_BYTE, 0, ARB_REFUSAL_FORM, ANY, IN(READ)},
     {TEXT_END, 0, ARB_REFUSAL_FORM, ANY, IN(READ)},
     {TEXT_SAMPLE, 0, ARB_REFUSAL_LEAVES, ANY, IN(READ)},
-    {TEXT_PAIR, 0, ARB_REFUSAL_CHILDREN, SHALLOW, IN(READ)},
+    {TEXT_PAIR, 0, 0, SHALLOW, IN(READ)},
 };
 
 static int was_tried[COUNT(changes)], failures;
@@ -223,11 +224,10 @@ static uint16_t root_of(size_t n, const uint16_t *row) {
     return v;
 }
 
-// All children of v but the lowest go to the root.
-static void leave_one_child(uint16_t v, uint16_t root, uint16_t *row) {
-    int found = 0;
+// All children of v go to the root.
+static void leave_no_child(uint16_t v, uint16_t root, uint16_t *row) {
     for (uint16_t u = 0; u < row[0]; u++)
-        if (row[1 + u] == v && found++) row[1 + u] = root;
+        if (row[1 + u] == v) row[1 + u] = root;
 }
 
 static void change_row(enum part part, size_t n, uint16_t *row) {
@@ -237,7 +237,7 @@ static void change_row(enum part part, size_t n, uint16_t *row) {
     if (part == ROOT) row[1 + root] = root;
     if (part == FILLER) row[2 * n - 1] = 1;
     if (part == LOST) row[1 + inner] = inner;
-    if (part == CHILDREN) leave_one_child(inner, root, row);
+    if (part == CHILDREN) leave_no_child(inner, root, row);
 }
 
 static void put(const char *bytes, struct text *t) {
@@ -345,6 +345,22 @@ static uint16_t put_under_root(size_t n, uint16_t *parents) {
     return n + 1;
 }
 
+static uint16_t put_chain(size_t n, uint16_t *parents) {
+    uint16_t root = 2 * n - 2;
+    parents[0] = n;
+    for (size_t s = 1; s < n; s++) parents[s] = root;
+    for (size_t v = n; v < root; v++) parents[v] = v + 1;
+    return root + 1;
+}
+
+static uint16_t draw_parents(enum shape shape, size_t n, uint16_t *parents) {
+    switch (shape) {
+    case BUSH: return put_under_root(n, parents);
+    case CHAIN: return put_chain(n, parents);
+    default: return join_all(shape, n, parents);
+    }
+}
+
 // Inner nodes change their numbers with one another.
 static void shuffle(size_t n, uint16_t *row) {
     uint16_t number[ROW_ROOM], old[ROW_ROOM];
@@ -361,7 +377,7 @@ static void shuffle(size_t n, uint16_t *row) {
 static void draw(const struct tree *tree, size_t n, struct row *row) {
     memset(row, 0, sizeof *row);
     row->length = ARB_ROW_WORDS(n);
-    row->at[0] = tree->shape == BUSH ? put_under_root(n, row->at + 1) : join_all(tree->shape, n, row->at + 1);
+    row->at[0] = draw_parents(tree->shape, n, row->at + 1);
     row->at[row->at[0]] = ARB_ROOT_MARK;
     if (tree->numbers == SHUFFLED) shuffle(n, row->at);
 }
@@ -442,7 +458,7 @@ static size_t put_deep(enum deep deep, size_t pairs, const struct dress *dress, 
 
 static void try_deep(enum deep deep, size_t pairs, const struct dress *dress, enum end end) {
     static struct input in;
-    unsigned number = pairs > MOST_OPEN || end != WHOLE ? ARB_REFUSAL_FORM : deep == SINGLES ? ARB_REFUSAL_CHILDREN : 0;
+    unsigned number = pairs > MOST_OPEN || end != WHOLE ? ARB_REFUSAL_FORM : 0;
     memset(&in, 0, sizeof in);
     in.n = deep == SINGLES ? ARB_FEWEST_SAMPLES : pairs + 1;
     in.out.length = ARB_ROW_WORDS(in.n);

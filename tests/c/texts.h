@@ -103,6 +103,14 @@ static const struct read_text {
     {"lengths", 5, TEXT("(((0:1,1:0.5)2:12.25,2:3.0)2:00.10,(3:0,4:1):7);"), {AGREED}},
     {"blanks around lengths", 5, TEXT("(((0 :1 ,1: 0.5\t) 2\r:\n12.25 ,2),(3,4)) : 1 ;"), {AGREED}},
     {"digits and a length behind the last bracket", 3, TEXT("((0,1)100,2)0042:007.5;"), {WITH_01}},
+    {"a pair around a sample", 2, TEXT("(0,(1));"), {ONLY_OF_2}},
+    {"a pair around all", 2, TEXT("((0,1));"), {ONLY_OF_2}},
+    {"two pairs around a sample", 2, TEXT("(((0)),1);"), {ONLY_OF_2}},
+    {"single pairs around all, a pair and a sample", 3, TEXT("( (((0,(1))),2));"), {WITH_01}},
+    {"digits and lengths behind single pairs", 2, TEXT(" ( ( 0 ) 5:1 ,((1)07:2.5):0 );"), {ONLY_OF_2}},
+    {"what is written of a node above one sample", 3, TEXT("((0),1,2);"), {BARE_3}},
+    {"what is written of a chain at the root", 3, TEXT("((0,1,2));"), {BARE_3}},
+    {"what is written of a chain in the middle", 4, TEXT("(((0,1)),2,3);"), {WITH_01_OF_4}},
     {"many digits", 2, TEXT("(0,1)000000000000000000000099999999999999999999:123456789012345678901.00000000000000000001;"), {ONLY_OF_2}},
 };
 
@@ -154,7 +162,7 @@ static const struct bad_text {
     {"17: two lengths", 2, TEXT("(0:1:1,1);"), 17, 4},
     {"17: a negative length", 2, TEXT("(0,1):-1;"), 17, 6},
     {"17: an exponent", 2, TEXT("(0,1):1e-05;"), 17, 7},
-    {"17: also where 18 and 10 apply", 2, TEXT("((0),9))"), 17, 7},
+    {"17: also where 18 applies", 2, TEXT("((0),9))"), 17, 7},
 
     {"18: one is missing", 3, TEXT("(0,1);"), 18, 2},
     {"18: 0 is missing", 3, TEXT("(1,2);"), 18, 0},
@@ -167,13 +175,8 @@ static const struct bad_text {
     {"18: twice below missing and too large", 4, TEXT("(9,1,1,0,3);"), 18, 1},
     {"18: the largest of the form", 2, TEXT("(0,1,99999);"), 18, 99999},
     {"18: a number whose low 16 bits are a sample", 2, TEXT("(0,65537);"), 18, 1},
-    {"18: also where 10 applies", 3, TEXT("((0),1);"), 18, 2},
-
-    {"10: a pair around a sample", 2, TEXT("(0,(1));"), 10, 3},
-    {"10: a pair around all", 2, TEXT("((0,1));"), 10, 0},
-    {"10: the outermost of two", 2, TEXT("(((0)),1);"), 10, 1},
-    {"10: the first in the text, though closed last", 3, TEXT("( ((0,(1)),2));"), 10, 0},
-    {"10: the first of two", 2, TEXT(" ( ( 0 ) 5:1 ,(1) );"), 10, 3},
+    {"18: one is missing beside a single pair", 3, TEXT("((0),1);"), 18, 2},
+    {"18: one twice, in single pairs", 2, TEXT("(((0)),(0),1);"), 18, 0},
 };
 
 // Rows that are written, with the text that has the supports and the one that does not. The words that no bracket has are not looked at.
@@ -192,6 +195,10 @@ static const struct written_row {
     {"the root has the highest number", 3, {WITH_01_OTHERWISE}, {9, 9, 9, 9, 1234, 9}, TEXT("((0,1)1234,2);"), TEXT("((0,1),2);")},
     {"children by their smallest samples", 5, {8, 7, 6, 6, 5, 7, ROOT, 5, 5, 0}, {9, 9, 9, 9, 9, 9, 9, 6, 7, 9}, TEXT("((0,4)7,(1,2)6,3);"),
         TEXT("((0,4),(1,2),3);")},
+    {"a node above one sample is written", 3, {BRANCH_0}, {9, 9, 9, 9, 9, 44}, TEXT("((0)44,1,2);"), TEXT("((0),1,2);")},
+    {"a chain at the root is written", 3, {CHAIN_ROOT}, {9, 9, 9, 9, 9, 44}, TEXT("((0,1,2)44);"), TEXT("((0,1,2));")},
+    {"a chain is written, each node with its own support", 4, {CHAIN_01}, {9, 9, 9, 9, 9, 9, 55, 66}, TEXT("(((0,1)66)55,2,3);"),
+        TEXT("(((0,1)),2,3);")},
     {"a sample between two pairs", 5, {8, 6, 5, 6, 7, 7, ROOT, 5, 5, 0}, {9, 9, 9, 9, 9, 9, 9, 99, 100, 9}, TEXT("((0,2)99,1,(3,4)100);"),
         TEXT("((0,2),1,(3,4));")},
 };
@@ -235,7 +242,7 @@ static int refuses_written(const uint16_t *row, uint64_t answer) {
 
 // What is wrong with n and with lengths comes before what is wrong with words and bytes.
 static void test_sizes(void) {
-    static const uint16_t bad[] = {ONE_CHILD, 0}, good[] = {WITH_01, 0};
+    static const uint16_t bad[] = {NO_CHILD, 0}, good[] = {WITH_01, 0};
     static const struct text text = TEXT("((0,1),2)"), right = TEXT("((0,1),2);");
     check("read: n is 1", reads(1, &text, 5, REFUSED(1, 0), NULL));
     check("read: n is 513", reads(513, &right, 6, REFUSED(1, 0), NULL));
@@ -318,7 +325,7 @@ static void test_long_texts(void) {
     put("(0,1"), put_times(FAR, '\n');
     check("17 at the end of 70,000 blanks", made_reads(2, REFUSED(17, FAR + 4), NULL));
     put("(0,"), put_times(FAR, '\t'), put("(1));");
-    check("10 behind 70,000 blanks", made_reads(2, REFUSED(10, FAR + 3), NULL));
+    check("a single pair behind 70,000 blanks", made_reads(2, ACCEPTED, row));
     put_times(4 * MILLION, ' '), put("(0,1)"), put_times(MILLION, '\r'), put(";"), put_times(MILLION / 2, '\n');
     check("millions of blanks", made_reads(2, ACCEPTED, row));
     put_times(4 * MILLION, ' '), put("(0,1)"), put_times(MILLION, '\r'), put(";"), put_times(MILLION / 2, '\n'), put("x");
@@ -337,9 +344,13 @@ static void test_long_texts(void) {
 
 // 511 brackets may be open at once, and not one more, whatever n is (RULES 14.6).
 static void test_nesting(void) {
+    static const uint16_t row[] = {ONLY_OF_2};
     enum { MOST_OPEN = 511 };
     put_times(MOST_OPEN, '('), put("0,1"), put_times(MOST_OPEN, ')'), put(";");
-    check("10 of 511 open brackets", made_reads(2, REFUSED(10, 0), NULL));
+    check("511 open brackets", made_reads(2, ACCEPTED, row));
+    put("("), put_times(MOST_OPEN - 1, '('), put("0"), put_times(MOST_OPEN - 1, ')'), put(",");
+    put_times(MOST_OPEN - 1, '('), put("1"), put_times(MOST_OPEN - 1, ')'), put(");");
+    check("511 open brackets around each sample", made_reads(2, ACCEPTED, row));
     put_times(MOST_OPEN + 1, '('), put("0,1"), put_times(MOST_OPEN + 1, ')'), put(";");
     check("17 of 512 open brackets", made_reads(2, REFUSED(17, MOST_OPEN), NULL));
     put("(0 , "), put_times(MOST_OPEN, '('), put("1"), put_times(MOST_OPEN, ')'), put(");");

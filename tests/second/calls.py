@@ -42,7 +42,7 @@ NUMBERS = {
     JUDGE: {0, 1, 3} | OF_A_ROW,
     RENUMBER: {0, 1, 3} | OF_A_ROW,
     COMPARE: {0, 1, 3} | OF_A_ROW,
-    READ: {0, 1, 3, 10, 17, 18},
+    READ: {0, 1, 3, 17, 18},
     WRITE: {0, 1, 3} | OF_A_ROW,
 }
 WITH_SUPPORTS = 1  # y of writing, if supports are wanted

@@ -34,8 +34,8 @@ def specimens() -> Iterator[Call]:
 
 
 def small_rows(rng: Random) -> Iterator[Call]:
-    """Every pair of valid rows of three samples, and of trees of four."""
-    for first, second in product(rows.valid_rows(3), repeat=2):
+    """Every pair of rows of three samples without single branches, and of trees of four."""
+    for first, second in product(rows.branching_rows(3), repeat=2):
         yield compare(3, first, second)
     for first, second in product(rows.every_tree(4), repeat=2):
         yield compare_trees(rng, 4, first, second)
@@ -173,9 +173,9 @@ def random_rows(rng: Random, n: int) -> list[Words]:
     buffers = [rows.shuffled_row(rng, n, one) for one in shapes.shuffled(rng, [tree, partner])]
     kind = rng.choice(["pair", "pair", "first", "second", "both"])
     if kind in ("first", "both"):
-        buffers[0] = rows.any_row(rng, n)
+        buffers[0] = rows.random_row(rng, n)
     if kind in ("second", "both"):
-        buffers[1] = rows.any_row(rng, n)
+        buffers[1] = rows.random_row(rng, n)
     return buffers
 
 

@@ -109,7 +109,7 @@ def stored(rng: Random) -> Iterator[Call]:
 def at_random(rng: Random) -> Call:
     """One call, with any n and any row."""
     n = rows.some_size(rng)
-    row = rows.any_row(rng, n)
+    row = rows.random_row(rng, n)
     if rng.random() < 0.04:
         row = rows.wrong_length(rng, row)
     if rng.random() < 0.02:

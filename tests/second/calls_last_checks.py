@@ -1,4 +1,7 @@
-"""The calls with rows that get as far as checks 9 and 10 (RULES 7.5), stored after each op's."""
+"""The calls with rows that get as far as checks 9 and 10 (RULES 7.5), stored after each op's.
+
+Where a row was made to have one child of some node, that is a single branch: it is taken.
+"""
 
 from __future__ import annotations
 
@@ -13,7 +16,7 @@ from calls import Call
 from calls_compare import compare
 from calls_judge import judge
 from calls_renumber import onto_old
-from rules import ROOT, Words, row_refusal
+from rules import ROOT, Words
 from sequences import add
 
 SEED = 20350  # its own, so that the calls stored before these stay as they are
@@ -64,14 +67,14 @@ def in_calls(rng: Random, n: int, row: Words, count: int) -> Iterator[Call]:
 # Every row of few samples
 
 
-def refused_rows(n: int) -> list[Words]:
-    """Every row of n samples that 9 or 10 is the answer to."""
-    return [row for row in rows.rows_with_root(n) if row_refusal(n, row)]
+def lacking_rows(n: int) -> list[Words]:
+    """Every row of n samples that gets to check 9 and lacks the root's reach or a second child."""
+    return [row for row in rows.rows_with_root(n) if not rows.is_branching(n, row)]
 
 
 def add_rows_of_3(rng: Random) -> Iterator[Call]:
     """Every such row of three samples added: with room, without, under an identifier in force."""
-    for row in refused_rows(3):
+    for row in lacking_rows(3):
         words = studies.study_of(rng, 3, shapes.runs_apart(rng, 3, 1), studies.length_for(3, 1))
         yield added(rng, 3, row)
         yield add(words, FREE, row)
@@ -79,15 +82,15 @@ def add_rows_of_3(rng: Random) -> Iterator[Call]:
 
 
 def compare_rows_of_3() -> Iterator[Call]:
-    """Every such row of three samples compared with every valid one, and with every other."""
-    refused, valid = refused_rows(3), rows.valid_rows(3)
-    for first, second in [*product(refused, valid + refused), *product(valid, refused)]:
+    """Every such row of three samples compared with every one that is not, and with every other."""
+    lacking, others = lacking_rows(3), rows.branching_rows(3)
+    for first, second in [*product(lacking, others + lacking), *product(others, lacking)]:
         yield compare(3, first, second)
 
 
 def rows_of_4(rng: Random) -> Iterator[Call]:
     """Every such row of four samples renumbered; every third one is added or compared too."""
-    for i, row in enumerate(refused_rows(4)):
+    for i, row in enumerate(lacking_rows(4)):
         yield onto_old(rng, 4, row)
         if i % 3 == 0:
             yield rng.choice([added, compared_first, compared_second])(rng, 4, row)

@@ -42,13 +42,21 @@ def some_supports(rng: Random, n: int) -> Words:
 
 
 def text_length(n: int, row: Words, support: Optional[Words]) -> int:
-    """How long the text of a row is; of a refused one, how long one might be."""
-    return len(newick.row_text(n, row, support)) if rules.row_refusal(n, row) is None else 4 * n
+    """How long the text of a row without single branches is; of another, how long one might be."""
+    return len(newick.row_text(n, row, support)) if rows.is_branching(n, row) else 4 * n
 
 
 def written(rng: Random, n: int, row: Words, support: Optional[Words], over: int = 0) -> Call:
-    """The call that writes a row to a buffer with so many bytes more than it needs, or fewer."""
+    """The call that writes a row to a buffer with so many bytes more than this, or fewer."""
     length = max(0, text_length(n, row, support) + over)
+    return write(n, row, support, old_bytes(rng, length))
+
+
+def written_exactly(
+    rng: Random, n: int, row: Words, support: Optional[Words], over: int = 0
+) -> Call:
+    """The same for a valid row and the length of its text, with single branches and without."""
+    length = max(0, len(newick.row_text(n, row, support)) + over)
     return write(n, row, support, old_bytes(rng, length))
 
 
@@ -75,10 +83,10 @@ def specimens(rng: Random) -> Iterator[Call]:
 
 
 def small_rows(rng: Random) -> Iterator[Call]:
-    """Every valid row of two to four samples, with buffers that are long enough and not."""
+    """Every row of two to four samples without single branches; buffers long enough and not."""
     overs = cycle(SHORT_OR_LONG)
     for n in (2, 3, 4):
-        for row in rows.valid_rows(n):
+        for row in rows.branching_rows(n):
             yield from in_both_ways(rng, n, row, next(overs))
 
 
@@ -315,9 +323,11 @@ def with_wrong_length(rng: Random, call: Call) -> Call:
 def at_random(rng: Random) -> Call:
     """One call, with any n, any row, supports or none, and any text buffer."""
     n = rows.some_size(rng)
-    row = rng.choice([rows.valid_row, rows.any_row])(rng, n)
+    row = rng.choice([rows.valid_row, rows.random_row])(rng, n)
     support = rng.choice([None, some_supports(rng, n)])
-    call = written(rng, n, row, support, rng.choice([*SHORT_OR_LONG, rng.randint(-9, 30)]))
+    over = rng.choice([*SHORT_OR_LONG, rng.randint(-9, 30)])
+    make = written_exactly if rules.row_refusal(n, row) is None else written
+    call = make(rng, n, row, support, over)
     if rng.random() < 0.04:
         call = with_wrong_length(rng, call)
     if rng.random() < 0.02:

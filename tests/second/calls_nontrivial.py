@@ -10,8 +10,7 @@ import rows
 import shapes
 from calls import Call
 from calls_compare import compare, compare_trees
-from rules import MOST_SAMPLES, ROOT, Group, Tree, Words, row_in_order, row_refusal
-from rules import standard_order
+from rules import MOST_SAMPLES, ROOT, Group, Tree, Words, row_in_order, standard_order
 
 SEED = 20400  # its own, so that the calls stored before these stay as they are
 
@@ -173,10 +172,10 @@ def three_trees(rng: Random) -> Iterator[Call]:
 # Refused rows, where counts seem to be known before all is checked
 
 
-def refused_row(rng: Random, n: int) -> Words:
-    """A row that is refused."""
+def lacking_row(rng: Random, n: int) -> Words:
+    """A row that is refused, or has a single branch."""
     row = rows.any_row(rng, n)
-    while row_refusal(n, row) is None:
+    while rows.is_branching(n, row):
         row = rows.any_row(rng, n)
     return row
 
@@ -186,8 +185,8 @@ def refused_rows_of_2() -> list[Words]:
     return [[2, 2, 2, ROOT], [4, 2, 2, ROOT], [3, 2, 3, ROOT], [3, 2, 2, 2]]
 
 
-def beside_refused(rng: Random, n: int, row: Words) -> Iterator[Call]:
-    """A refused row against itself, and in either place beside bare and full trees."""
+def beside_trees(rng: Random, n: int, row: Words) -> Iterator[Call]:
+    """Such a row against itself, and in either place beside bare and full trees."""
     yield compare(n, row, row)
     for tree in (shapes.bare(rng, n), shapes.binary(rng, n)):
         yield compare(n, row, rows.shuffled_row(rng, n, tree))
@@ -195,11 +194,11 @@ def beside_refused(rng: Random, n: int, row: Words) -> Iterator[Call]:
 
 
 def refused_rows(rng: Random) -> Iterator[Call]:
-    """Refused rows of two samples and of more."""
+    """Refused rows of two samples and of more, a few with a single branch among them."""
     for row in refused_rows_of_2():
-        yield from beside_refused(rng, 2, row)
+        yield from beside_trees(rng, 2, row)
     for n in EACH_SIZE:
-        yield from beside_refused(rng, n, refused_row(rng, n))
+        yield from beside_trees(rng, n, lacking_row(rng, n))
 
 
 def stored() -> Iterator[Call]:

@@ -33,9 +33,9 @@ def specimens(rng: Random) -> Iterator[Call]:
 
 
 def small_rows(rng: Random) -> Iterator[Call]:
-    """Every valid row of two to four samples, and every row of three with parents in range."""
+    """Rows of few samples: all without single branches, and all of three with parents in range."""
     for n in (2, 3, 4):
-        for row in rows.valid_rows(n):
+        for row in rows.branching_rows(n):
             yield onto_old(rng, n, row)
     for m in (4, 5):
         for row in rows.rows_in_range(3, m):
@@ -125,7 +125,7 @@ def stored(rng: Random) -> Iterator[Call]:
 def at_random(rng: Random) -> Call:
     """One call, with any n, any row and any output."""
     n = rows.some_size(rng)
-    row = rng.choice([rows.valid_row, rows.any_row])(rng, n)
+    row = rng.choice([rows.valid_row, rows.random_row])(rng, n)
     buffers = [row, rows.old_words(rng, 2 * n)]
     if rng.random() < 0.04:
         buffers = rows.one_wrong_length(rng, buffers)

@@ -20,11 +20,12 @@ import shapes  # noqa: E402
 import studies  # noqa: E402
 from calls import to_bytes  # noqa: E402
 from listing import LONGEST, MARK, listed, number_in  # noqa: E402
-from rules import MOST_RUNS, Tree, Words, slot_width  # noqa: E402
-from specimens import BARE_3, ONLY_TREE_OF_2, RUNS_OF_5, WITH_01, WITH_02  # noqa: E402
+from rules import MOST_RUNS, Tree, Words, groups_of, slot_width  # noqa: E402
+from specimens import BARE_3, BRANCH_0, ONLY_TREE_OF_2, RUNS_OF_5, WITH_01, WITH_02  # noqa: E402
 
 SEED = 20250
-LAST_CHECKS_SEED = 20350  # of the files made last, so that those before them stay as they are
+LAST_CHECKS_SEED = 20350  # of files made later, so that those before them stay as they are
+SINGLE_BRANCHES_SEED = 20550  # of the files made last
 
 # Files
 
@@ -112,13 +113,40 @@ def with_row(rng: Random, n: int, row: Words) -> bytes:
 
 
 def refused_by_last_checks(rng: Random) -> Iterator[bytes]:
-    """A row in some slot that 9 or 10 refuses, at the first and last samples and inner nodes."""
+    """A row in some slot: its first or last samples or inner nodes are lost or lack children."""
     for n in (3, 4, 7, 16, 40, 512):
         m = rows.nodes_from(rng, n, n + 2)
         for v in (0, n - 1, n, m - 1):
             yield with_row(rng, n, rows.lost_row(rng, n, m, rows.lost_from(rng, n, m, v)))
         for v in (n, m - 1):
             yield with_row(rng, n, rows.few_children_row(rng, n, m, *rows.few_from(rng, n, m, v)))
+
+
+def with_branches(rng: Random, n: int, slots: list[Words]) -> bytes:
+    """The file of these slots, those that leave room for it with single branches."""
+    trees = [groups_of(n, row) for _, *row in slots]
+    rows_of = [rng.choice(rows.branches_above(rng, n, tree, rng.randint(1, n))) for tree in trees]
+    return file_of(n, [[slot[0], *row] for slot, row in zip(slots, rows_of)])
+
+
+def without_a_child(rng: Random, n: int, slots: list[Words]) -> bytes:
+    """The file of these slots, one of them with a node that has no child, and single branches."""
+    m = rows.nodes_from(rng, n, n + 2)
+    v, kept = rng.sample(range(n, m), 2)
+    one = [u for u in range(n, m) if u not in (v, kept) and rng.random() < 0.5]
+    slot = rng.choice(slots)
+    spoilt = [slot[0], *rows.few_children_row(rng, n, m, one, [v])]
+    return file_of(n, [spoilt if other is slot else other for other in slots])
+
+
+def single_branches(rng: Random) -> Iterator[bytes]:
+    """Trees with single branches, the same trees without, and a node that has no child."""
+    for n in (3, 3, 4, 4, 5, 6, 8, 11, 16, 30, 100):
+        trees = [rows.tree_with_room(rng, n), *shapes.runs_near(rng, n, rng.randint(0, 5))]
+        slots = slots_of(rng, n, trees)
+        yield with_branches(rng, n, slots)
+        yield file_of(n, slots)
+        yield without_a_child(rng, n, slots)
 
 
 def refused_identifiers(rng: Random) -> Iterator[bytes]:
@@ -142,9 +170,8 @@ def too_many(rng: Random) -> Iterator[bytes]:
     """More than 1,024 slots: 12 at slot 1,024, if it is not refused for something else first."""
     for n, k in ((2, 1025), (2, 6552), (3, 1300), (15, 1056)):
         yield file_of_trees(rng, n, shapes.runs_equal(rng, n, k))
-    bad = [5, 4, 3, 3, 65535, 3]
     for place in (MOST_RUNS - 1, MOST_RUNS, MOST_RUNS + 1):
-        for slot in ([0] + WITH_01, [7] + bad, [0] + bad):
+        for slot in ([0] + WITH_01, [7] + BRANCH_0, [0] + BRANCH_0):
             slots = slots_of(rng, 3, shapes.runs_equal(rng, 3, MOST_RUNS + 2))
             slots[place] = slot
             yield file_of(3, slots)
@@ -256,6 +283,7 @@ def named_files() -> Iterator[tuple[str, bytes]]:
         "mark": wrong_marks(),
         "product": wrong_products(rng),
         "last": refused_by_last_checks(Random(LAST_CHECKS_SEED)),
+        "single": single_branches(Random(SINGLE_BRANCHES_SEED)),
     }
     for kind, files in kinds.items():
         for i, data in enumerate(files):
@@ -285,7 +313,7 @@ def random_valid(rng: Random) -> bytes:
 def random_row(rng: Random) -> bytes:
     """A file with a row of any kind in some slot."""
     n = rows.some_size(rng)
-    return with_row(rng, n, rows.any_row(rng, n))
+    return with_row(rng, n, rows.random_row(rng, n))
 
 
 def random_identifiers(rng: Random) -> bytes:

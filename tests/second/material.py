@@ -14,6 +14,7 @@ import calls_newick_write
 import calls_nontrivial
 import calls_renumber
 import calls_report
+import calls_single_branches
 import calls_studies
 from calls import ADD, COMPARE, JUDGE, OPEN, READ, RENUMBER, REPORT, WITHDRAW, WRITE, Call
 
@@ -63,6 +64,7 @@ APPENDED: list[Callable[[], Iterator[Call]]] = [
     calls_nontrivial.stored,
     calls_newick_read.stored,
     calls_newick_write.stored,
+    calls_single_branches.stored,
 ]
 
 SEED = 20250  # with the op's number added, so that no op's calls depend on another's

@@ -8,7 +8,7 @@ from __future__ import annotations
 
 import sys
 from collections import Counter, defaultdict
-from typing import NamedTuple, Optional, Union
+from typing import Optional, Union
 
 import rules
 from rules import ROOT, Answer, Group, Refusal, Words
@@ -34,14 +34,7 @@ class NotOfForm(Exception):
         self.place = place
 
 
-class Pair(NamedTuple):
-    """A pair of brackets: the place of the opening one, and the subtrees that it holds."""
-
-    opening: int
-    held: list[Subtree]
-
-
-Subtree = Union[int, Pair]  # a sample, or a pair
+Subtree = Union[int, list["Subtree"]]  # a sample, or what a pair of brackets holds
 
 
 class Reader:
@@ -97,11 +90,10 @@ class Reader:
             self.take(b".")
             self.digits()
 
-    def pair(self, around: int) -> Pair:
+    def pair(self, around: int) -> list[Subtree]:
         """Subtrees parted by commas, in brackets, and perhaps digits; this many pairs are open."""
         if around == MOST_OPEN:
             raise NotOfForm(self.place)
-        opening = self.place
         self.take(b"(")
         held = [self.subtree(around + 1)]
         while self.sees_token(b","):
@@ -110,7 +102,7 @@ class Reader:
         self.take_token(b")")
         if self.sees_token(DIGITS):
             self.digits()
-        return Pair(opening, held)
+        return held
 
     def subtree(self, around: int) -> Subtree:
         """A pair or a sample, and then perhaps a colon and a number."""
@@ -138,14 +130,7 @@ def samples_in(subtree: Subtree) -> list[int]:
     """The samples of a subtree, each as often as it stands there."""
     if isinstance(subtree, int):
         return [subtree]
-    return [sample for part in subtree.held for sample in samples_in(part)]
-
-
-def pairs_in(subtree: Subtree) -> list[Pair]:
-    """The pairs of a subtree, in the order of their opening brackets."""
-    if isinstance(subtree, int):
-        return []
-    return [subtree] + [pair for part in subtree.held for pair in pairs_in(part)]
+    return [sample for part in subtree for sample in samples_in(part)]
 
 
 def samples_refusal(n: int, subtree: Subtree) -> Refusal:
@@ -156,16 +141,11 @@ def samples_refusal(n: int, subtree: Subtree) -> Refusal:
     return rules.refuse_at(sorted(wrong), 18)
 
 
-def single_refusal(subtree: Subtree) -> Refusal:
-    """10: the first opening bracket of a pair that holds one subtree."""
-    return rules.refuse_at((p.opening for p in pairs_in(subtree) if len(p.held) == 1), 10)
-
-
 def groups_in(subtree: Subtree) -> list[Group]:
     """The groups of a subtree's samples and pairs, that of all its samples first."""
     if isinstance(subtree, int):
         return [frozenset([subtree])]
-    parts = [groups_in(part) for part in subtree.held]
+    parts = [groups_in(part) for part in subtree]
     own = frozenset().union(*(groups[0] for groups in parts))
     return [own] + [group for groups in parts for group in groups]
 
@@ -183,9 +163,10 @@ def read(n: int, text: Words, out: Words) -> Answer:
         subtree = Reader(bytes(text)).whole()
     except NotOfForm as found:
         return rules.refused((17, found.place), [text, out])
-    refusal = samples_refusal(n, subtree) or single_refusal(subtree)
+    refusal = samples_refusal(n, subtree)
     if refusal:
         return rules.refused(refusal, [text, out])
+    # RULES 14.9: the groups, each once; so a pair with one subtree adds nothing.
     return rules.accepted([text, rules.row_of(n, frozenset(groups_in(subtree)))])
 
 

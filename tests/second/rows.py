@@ -6,12 +6,13 @@ picks from has a fixed order, so the same seed makes the same material.
 
 from __future__ import annotations
 
+from collections import Counter
 from itertools import product
 from random import Random
 from typing import Callable, Iterator
 
-from rules import ROOT, Tree, Words, filled, groups_of, row_in_order, row_of, row_refusal
-from rules import standard_order
+from rules import ROOT, Tree, Words, filled, groups_of, inner_nodes, node_groups, parent
+from rules import row_in_order, row_of, row_refusal, standard_order
 from shapes import any_tree, bare, binary, caterpillar, cut, few_inner, shuffled, some_groups
 
 # How many samples
@@ -62,9 +63,27 @@ def valid_rows(n: int) -> list[Words]:
     return [row for row in rows_with_root(n) if row_refusal(n, row) is None]
 
 
+def child_counts(row: Words) -> Counter[int]:
+    """How many children each node of a row has."""
+    return Counter(row[1 : 1 + row[0]])
+
+
+def is_branching(n: int, row: Words) -> bool:
+    """Whether a row is valid and has no single branch (RULES 2.5)."""
+    if row_refusal(n, row):
+        return False
+    children = child_counts(row)
+    return all(children[v] > 1 for v in inner_nodes(n, row))
+
+
+def branching_rows(n: int) -> list[Words]:
+    """Every valid row of n samples that has no single branch; n has to be small."""
+    return [row for row in rows_with_root(n) if is_branching(n, row)]
+
+
 def every_tree(n: int) -> list[Tree]:
     """Every tree of n samples, each once; n has to be small."""
-    rows = [row_of(n, groups_of(n, row)) for row in valid_rows(n)]
+    rows = [row_of(n, groups_of(n, row)) for row in branching_rows(n)]
     return [groups_of(n, list(row)) for row in sorted(set(map(tuple, rows)))]
 
 
@@ -137,7 +156,7 @@ def hung(rng: Random, root: int, others: list[int]) -> dict[int, int]:
 
 
 def grown_row(rng: Random, n: int) -> Words:
-    """A row in which every node reaches the root, but nodes may lack children (for 10)."""
+    """A row in which every node reaches the root, but inner nodes have one child or none (10)."""
     root, *others = some_inner_nodes(rng, n)
     leaves = leaves_anywhere(rng, n, [root] + others)
     return row_of_parents(n, hung(rng, root, others) | leaves)
@@ -238,6 +257,90 @@ ROWS: list[Callable[[Random, int], Words]] = [
 def any_row(rng: Random, n: int) -> Words:
     """A row of 2n words of any kind above."""
     return rng.choice(ROWS)(rng, n)
+
+
+# Rows with single branches
+
+
+def with_node_above(row: Words, v: int) -> Words:
+    """The row with one inner node more, a single branch above this node, numbered last."""
+    m = row[0]
+    return [m + 1, *with_parent(row, v, m)[1 : 1 + m], parent(row, v), *row[2 + m :]]
+
+
+def with_nodes_above(row: Words, nodes: list[int]) -> Words:
+    """The row with a single branch above each of these nodes, a chain where one stands often."""
+    for v in nodes:
+        row = with_node_above(row, v)
+    return row
+
+
+def root_of(row: Words) -> int:
+    """The root of a valid row."""
+    return row.index(ROOT) - 1
+
+
+def places_of_branches(rng: Random, n: int, row: Words, count: int) -> list[list[int]]:
+    """Where this many single branches may go: all at the root, above one sample, one node, any."""
+    one, nodes = [root_of(row), rng.randrange(n), rng.randrange(n, row[0])], range(row[0])
+    return [*([v] * count for v in one), rng.choices(nodes, k=count)]
+
+
+def renamed(n: int, row: Words, names: list[int]) -> Words:
+    """The row with other numbers for its inner nodes, that of node n first."""
+    name = [*range(n), *names]
+    above = [ROOT if word == ROOT else name[word] for word in row[1 : 1 + row[0]]]
+    return row_of_parents(n, dict(zip(name, above)))
+
+
+def in_any_numbering(rng: Random, n: int, row: Words) -> Words:
+    """The row with its inner nodes numbered anew."""
+    return renamed(n, row, shuffled(rng, list(inner_nodes(n, row))))
+
+
+def depth(row: Words, v: int) -> int:
+    """How many steps up the root is from a node of a valid row."""
+    return 0 if parent(row, v) == ROOT else 1 + depth(row, parent(row, v))
+
+
+def in_order_of_groups(n: int, row: Words, down: int = 1) -> Words:
+    """The row numbered in the order of RULES 4.1; a chain from its top down, or up for -1."""
+    groups = node_groups(n, row)
+
+    def rank(v: int) -> tuple[int, int, int]:
+        return -len(groups[v]), min(groups[v]), down * depth(row, v)
+
+    in_order = sorted(inner_nodes(n, row), key=rank)
+    return renamed(n, row, [n + in_order.index(v) for v in inner_nodes(n, row)])
+
+
+def tree_with_room(rng: Random, n: int) -> Tree:
+    """A tree that leaves room for at least one inner node more; n is above 2."""
+    return some_groups(rng, n, rng.randint(0, n - 3))
+
+
+def branches_above(rng: Random, n: int, tree: Tree, most: int) -> list[Words]:
+    """Rows of a tree with up to so many single branches, put in each of the ways above."""
+    row = row_of(n, tree)
+    count = min(most, 2 * n - 1 - row[0])
+    ways = places_of_branches(rng, n, row, count)
+    return [in_any_numbering(rng, n, with_nodes_above(row, nodes)) for nodes in ways]
+
+
+def single_branch_row(rng: Random, n: int) -> Words:
+    """A valid row with single branches in any places and in any numbering, where n allows."""
+    if n == 2:
+        return valid_row(rng, n)
+    most = rng.choice([1, 2, rng.randint(1, n), n])
+    return rng.choice(branches_above(rng, n, tree_with_room(rng, n), most))
+
+
+def random_row(rng: Random, n: int) -> Words:
+    """A row of 2n words of any kind above, of which some have single branches."""
+    return rng.choice([any_row, any_row, any_row, single_branch_row])(rng, n)
+
+
+# Rows of other lengths
 
 
 def wrong_length(rng: Random, row: Words) -> Words:
@@ -346,7 +449,7 @@ def tree_parents(rng: Random, n: int, inner: list[int]) -> dict[int, int]:
 
 
 def few_children_row(rng: Random, n: int, m: int, one: list[int], none: list[int]) -> Words:
-    """A row of m nodes: these inner ones have one child, these none, others more (for 10)."""
+    """A row of m nodes: these inner ones have one child, these none (for 10), others more."""
     few = {*one, *none}
     others = [v for v in range(n, m) if v not in few]
     parents = tree_parents(rng, n, others)

@@ -147,9 +147,9 @@ def climb_refusal(n: int, row: Words) -> Refusal:
 
 
 def children_refusal(n: int, row: Words) -> Refusal:
-    """10: the lowest inner node with one child or none."""
-    children = Counter(parent(row, v) for v in range(row[0]))
-    return refuse_at((v for v in inner_nodes(n, row) if children[v] < 2), 10)
+    """10: the lowest inner node with no child at all."""
+    parents = {parent(row, v) for v in range(row[0])}
+    return refuse_at((v for v in inner_nodes(n, row) if v not in parents), 10)
 
 
 def row_refusal(n: int, row: Words) -> Refusal:
@@ -168,15 +168,20 @@ def row_refusal(n: int, row: Words) -> Refusal:
 # Rows and groups
 
 
-def groups_of(n: int, row: Words) -> Tree:
-    """The groups of a valid row, one for each node (RULES 3.1)."""
+def node_groups(n: int, row: Words) -> list[Group]:
+    """The group of each node of a valid row (RULES 3.1)."""
     below: list[set[int]] = [set() for _ in range(row[0])]
     for sample in range(n):
         v = sample
         while v != ROOT:
             below[v].add(sample)
             v = parent(row, v)
-    return frozenset(frozenset(samples) for samples in below)
+    return [frozenset(samples) for samples in below]
+
+
+def groups_of(n: int, row: Words) -> Tree:
+    """The groups of a valid row (RULES 3.2); those of a chain's nodes are one (RULES 2.5)."""
+    return frozenset(node_groups(n, row))
 
 
 def nontrivial(n: int, tree: Tree) -> Tree:
@@ -190,7 +195,7 @@ def agree(one: Group, other: Group) -> bool:
 
 
 def standard_order(tree: Tree) -> list[Group]:
-    """The groups of a tree's inner nodes in standard numbering."""
+    """The groups of a tree's inner nodes in standard numbering, each once (RULES 4.5)."""
     # RULES 4.1: larger groups first; of equal sizes, the one with the smaller smallest sample.
     inner = (group for group in tree if len(group) > 1)
     return sorted(inner, key=lambda group: (-len(group), min(group)))
@@ -231,7 +236,7 @@ def judge(n: int, row: Words) -> Answer:
 
 
 def renumber(n: int, row: Words, out: Words) -> Answer:
-    """A row in standard numbering (RULES 4.4), written to another buffer."""
+    """A row in standard numbering (RULES 4.4 and 4.5), written to another buffer."""
     refusal = size_refusal(n) or length_refusal(n, row, out) or row_refusal(n, row)
     if refusal:
         return refused(refusal, [row, out])
@@ -305,6 +310,7 @@ def standard_tree(n: int, row: tuple[int, ...]) -> Optional[Tree]:
     if row_refusal(n, words):
         return None
     tree = groups_of(n, words)
+    # RULES 4.5: a row with a single branch has more nodes than the tree's row.
     return tree if words == row_of(n, tree) else None
 
 
@@ -323,7 +329,7 @@ def read_study(words: Words) -> Optional[Study]:
     # RULES 6.5: 0 to the end.
     if any(words[end:]) or not has_identifiers([slot[0] for slot in slots]):
         return None
-    # RULES 6.3 and 6.7: valid rows, in standard numbering.
+    # RULES 6.3 and 6.7: valid rows, in standard numbering, with no single branch.
     trees = [standard_tree(n, tuple(slot[1:])) for slot in slots]
     if None in trees:
         return None

@@ -2,7 +2,7 @@
 
 A sequence is kept as single calls, each with the whole study before it: the
 study after one call is the study before the next, except where a call is tried
-on a damaged copy. So each op can take its own calls out of the sequences.
+on a copy. So each op can take its own calls out of the sequences.
 """
 
 from __future__ import annotations
@@ -12,7 +12,6 @@ from random import Random
 from typing import Callable, Iterator
 
 import rows
-import shapes
 import studies
 import thresholds
 from calls import ADD, LONGEST, OPEN, REPORT, WITHDRAW, Call, answer
@@ -49,6 +48,7 @@ def report_onto_old(rng: Random, words: Words, p: int) -> Call:
 # Sequences by chance
 
 Next = Callable[[Random, Words, list[int]], Call]  # by the study and a pool of identifiers
+After = Callable[[Call], Words]  # the study before the next call
 
 
 def next_open(rng: Random, words: Words, pool: list[int]) -> Call:
@@ -64,6 +64,14 @@ def next_add(rng: Random, words: Words, pool: list[int]) -> Call:
     if rng.random() < 0.05:
         row = rows.wrong_length(rng, row)
     return add(words, 0 if rng.random() < 0.06 else rng.choice(pool), row)
+
+
+def next_add_of_any(rng: Random, words: Words, pool: list[int]) -> Call:
+    """The same; some rows have single branches."""
+    call = next_add(rng, words, pool)
+    if rng.random() < 0.2:
+        return add(words, call.x, rows.single_branch_row(rng, words[4]))
+    return call
 
 
 def next_withdraw(rng: Random, words: Words, pool: list[int]) -> Call:
@@ -85,9 +93,29 @@ def next_report_at_any(rng: Random, words: Words, pool: list[int]) -> Call:
     return next_report(rng, words, pool)._replace(x=thresholds.any_threshold(rng))
 
 
-def nexts(reporting: Next) -> list[Next]:
+def nexts(adding: Next, reporting: Next) -> list[Next]:
     """What comes next in a sequence, each as many times as it is likely."""
-    return [next_add] * 14 + [next_withdraw] * 5 + [reporting] * 3 + [next_open]
+    return [adding] * 14 + [next_withdraw] * 5 + [reporting] * 3 + [next_open]
+
+
+STORED = nexts(next_add, next_report)
+RANDOM = nexts(next_add_of_any, next_report_at_any)
+
+
+def study_after(call: Call) -> Words:
+    """The study that a call leaves."""
+    return answer(call).buffers[0]
+
+
+def adds_single_branch(call: Call) -> bool:
+    """Whether a call adds a row that has a single branch."""
+    taken = call.op == ADD and answer(call).number == 0
+    return taken and not rows.is_branching(call.buffers[0][4], call.buffers[1])
+
+
+def stored_after(call: Call) -> Words:
+    """The same, but a row with a single branch was added to a copy, which is not gone on with."""
+    return call.buffers[0] if adds_single_branch(call) else study_after(call)
 
 
 def on_damaged_copy(rng: Random, call: Call) -> Call:
@@ -97,21 +125,21 @@ def on_damaged_copy(rng: Random, call: Call) -> Call:
 
 
 def sequence(
-    rng: Random, n: int, slots: int, steps: int, reporting: Next = next_report
+    rng: Random, n: int, slots: int, steps: int, may_come: list[Next], after: After
 ) -> Iterator[Call]:
     """A study opened with room for this many runs, and this many calls on it."""
     pool = studies.some_identifiers(rng, slots + 3)
     length = studies.length_for(n, slots) + rng.choice([0, 0, 1, 2 * n])
     opening = open_study(n, rows.old_words(rng, length))
     yield opening
-    words = answer(opening).buffers[0]
+    words = after(opening)
     for _ in range(steps):
-        call = rng.choice(nexts(reporting))(rng, words, pool)
+        call = rng.choice(may_come)(rng, words, pool)
         if call.op != OPEN and rng.random() < 0.1:
             yield on_damaged_copy(rng, call)
         else:
             yield call
-            words = answer(call).buffers[0]
+            words = after(call)
 
 
 # Sequences step by step
@@ -122,7 +150,7 @@ def played(words: Words, steps: list[Callable[[Words], Call]]) -> Iterator[Call]
     for step in steps:
         call = step(words)
         yield call
-        words = answer(call).buffers[0]
+        words = study_after(call)
 
 
 def opens(n: int) -> Callable[[Words], Call]:
@@ -212,7 +240,8 @@ SEED = 20250  # of the sequences, from which each op takes its calls
 def stored_sequences() -> tuple[Call, ...]:
     """The calls of all stored sequences, in order."""
     rng = Random(SEED)
-    by_chance = [call for sizes in SEQUENCES for call in sequence(rng, *sizes)]
+    made = (sequence(rng, *sizes, STORED, stored_after) for sizes in SEQUENCES)
+    by_chance = [call for calls in made for call in calls]
     crowds = [*crowded(rng, 0), *crowded(rng, 10), *crowded_in_the_longest(rng)]
     return (*specimens(), *by_chance, *crowds, *widest(rng))
 
@@ -229,7 +258,7 @@ def random_sequence(rng: Random) -> Iterator[Call]:
     n = rows.some_size(rng) if rng.random() < 0.3 else rng.randint(2, 8)
     most = 3 if n > 40 else 12
     slots, steps = rng.randint(1, most), rng.randint(5, 60)
-    return sequence(rng, n, slots, steps, next_report_at_any)
+    return sequence(rng, n, slots, steps, RANDOM, study_after)
 
 
 def random_in_sequences(rng: Random, op: int) -> Iterator[Call]:

@@ -21,6 +21,19 @@ ROWS_OF_3 = [
     [6, 4, 4, 3, ROOT, 3],
 ]
 
+# RULES 10.4: a node without a child.
+CHILDLESS_3 = [5, 3, 3, 3, ROOT, 3]
+
+# RULES 10.15: a node above one sample and a chain at the root; a chain in the middle. Each with
+# what it is renumbered to, and with its text.
+BRANCH_0, CHAIN_ROOT = [5, 4, 3, 3, ROOT, 3], [5, 4, 4, 4, ROOT, 3]
+CHAIN_MIDDLE = [7, 6, 6, 4, 4, ROOT, 4, 5]
+SINGLE_BRANCHES = [
+    (3, BRANCH_0, [4, 3, 3, 3, ROOT, 0], b"((0),1,2);"),
+    (3, CHAIN_ROOT, [4, 3, 3, 3, ROOT, 0], b"((0,1,2));"),
+    (4, CHAIN_MIDDLE, [6, 5, 5, 4, 4, ROOT, 4, 0], b"(((0,1)),2,3);"),
+]
+
 # RULES 10.5: a run with {0,1}, one with {0,2}, and their report.
 WITH_01 = [5, 4, 4, 3, ROOT, 3]
 WITH_02 = [5, 4, 3, 4, ROOT, 3]

@@ -90,9 +90,11 @@ def test_number_of_rows_with_root() -> None:
     for n in (2, 3, 4):
         made = rows.rows_with_root(n)
         assert len(made) == len(set(map(tuple, made))) == sum(i ** (n + i) for i in range(1, n))
-        refused = calls_last_checks.refused_rows(n)
-        assert len(refused) == len(made) - len(rows.valid_rows(n))
-        assert {rules.row_refusal(n, row)[0] for row in refused} <= {9, 10}
+        lacking = calls_last_checks.lacking_rows(n)
+        assert len(lacking) == len(made) - len(rows.branching_rows(n))
+        refusals = [rules.row_refusal(n, row) for row in lacking]
+        assert {refusal[0] for refusal in refusals if refusal} <= {9, 10}
+        assert refusals.count(None) == len(rows.valid_rows(n)) - len(rows.branching_rows(n))
 
 
 def test_lost_rows() -> None:
@@ -119,7 +121,7 @@ def test_kinds_of_lost_nodes() -> None:
 
 
 def test_rows_of_few_children() -> None:
-    """Rows made with one child or none of some nodes are refused with 10 at the lowest of these."""
+    """Rows made with no child of some nodes are refused with 10 at the lowest of these."""
     rng = Random(17)
     for n in (3, 4, 5, 9, 14):
         for m, v in [(m, v) for m, v in places(n) if v >= n]:
@@ -128,7 +130,8 @@ def test_rows_of_few_children() -> None:
                 counts = {u: len(children_of(row, u)) for u in range(n, m)}
                 assert [u for u in counts if counts[u] == 1] == one
                 assert [u for u in counts if counts[u] == 0] == none
-                assert rules.row_refusal(n, row) == (10, v)
+                assert rules.row_refusal(n, row) == ((10, min(none)) if none else None)
+                assert rows.is_branching(n, row) == (not one and not none)
 
 
 def test_chains() -> None:
@@ -283,7 +286,7 @@ def test_stored_orders() -> None:
 
 
 def test_stored_numberings() -> None:
-    """Every row of up to four samples is compared with its own tree, and in turn with another."""
+    """Every row of up to four samples without single branches: against its own tree and another."""
     same, before, after = set(), set(), set()
     for call in calls_nontrivial.every_numbering(Random(1)):
         n, one, other = trees_compared(call)
@@ -293,7 +296,8 @@ def test_stored_numberings() -> None:
         else:
             before.add(first)
             after.add(second)
-    every = {(n, *row) for n in calls_nontrivial.EVERY_NUMBERING for row in rows.valid_rows(n)}
+    sizes = calls_nontrivial.EVERY_NUMBERING
+    every = {(n, *row) for n in sizes for row in rows.branching_rows(n)}
     # Two samples have no other tree.
     assert same == every and before == after == {row for row in every if row[0] > 2}
 
@@ -460,7 +464,8 @@ def test_sequences_go_on() -> None:
     """Each call is on the study that the one before left, or on a damaged copy of it."""
     rng = Random(9)
     for n, slots in ((2, 3), (3, 5), (6, 4)):
-        first, *others = sequences.sequence(rng, n, slots, 150)
+        made = sequences.sequence(rng, n, slots, 150, sequences.RANDOM, sequences.study_after)
+        first, *others = made
         words, on_copies = rules.open_study(n, first.buffers[0]).buffers[0], 0
         for call in others:
             if call.buffers[0] == words:

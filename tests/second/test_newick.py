@@ -16,6 +16,7 @@ from typing import Optional, Union
 import calls
 import calls_newick_read
 import calls_newick_write
+import calls_single_branches
 import newick
 import rows
 import rules
@@ -23,7 +24,8 @@ import shapes
 import texts
 from newick import MOST_OPEN
 from rules import ROOT, Group, Words
-from specimens import ONLY_TREE_OF_2, REPORT_OF_5, ROWS_OF_3, TEXT_OF_5, WITH_01
+from specimens import CHAIN_MIDDLE, ONLY_TREE_OF_2, REPORT_OF_5, ROWS_OF_3, SINGLE_BRANCHES
+from specimens import TEXT_OF_5, WITH_01
 
 
 def verdict(n: int, text: bytes) -> tuple[int, int]:
@@ -93,17 +95,20 @@ def test_places_of_18() -> None:
         assert verdict(n, text) == (18, place), text
 
 
-def test_places_of_10() -> None:
-    """RULES 7.5, line 10: the first opening byte of a pair that holds one subtree."""
-    cases = {b"(((0)),1);": 1, b"((0,1));": 0, b"(0,(1));": 3, b" ( 0 , ( (1)2) ) ;": 7}
-    cases |= {b"((0),(1));": 1, b"(((0,1)));": 0}
-    for text, place in cases.items():
-        assert verdict(2, text) == (10, place), text
-    assert verdict(3, b"((0,(1)),(2));") == (10, 4)
+def test_single_pairs() -> None:
+    """RULES 14.9 and 10.15: a pair with one subtree adds nothing to what is read."""
+    only = [b"(((0)),1);", b"((0,1));", b"(0,(1));", b" ( 0 , ( (1)2) ) ;", b"((0),(1));"]
+    for text in [*only, b"(((0,1)));", b"((0)5:1.5,((1):2)7)8;"]:
+        assert read_row(2, text) == ONLY_TREE_OF_2, text
+    assert read_row(3, b"((0,(1)),(2));") == WITH_01
+    for n, row, becomes, text in SINGLE_BRANCHES:
+        assert written(n, row) == text
+        assert read_row(n, text) == becomes
+    assert written(4, CHAIN_MIDDLE, [9, 9, 9, 9, 9, 9, 55, 66]) == b"(((0,1)66)55,2,3);"
 
 
 def test_order_of_reading() -> None:
-    """RULES 14: 1, 3, then 17 over the whole text, 18 and 10."""
+    """RULES 7.9: 1, 3, then 17 over the whole text, and 18."""
     for text in (b"(0,1);", b"((0)", b"((0),0);", b"((0),1);"):
         for n in (0, 1, 513, 65535):
             assert newick.read(n, list(text), []) == (1, 0, None, [list(text), []])
@@ -111,19 +116,19 @@ def test_order_of_reading() -> None:
             assert newick.read(2, list(text), out) == (3, 0, None, [list(text), out])
     assert verdict(2, b"((0),0,9)") == (17, 9)
     assert verdict(2, b"((0),0,9);") == (18, 0)
-    assert verdict(2, b"((0),1);") == (10, 1)
+    assert verdict(2, b"((0),1);") == (0, 0)
 
 
 def test_nesting() -> None:
-    """RULES 14: 511 brackets may be open at once, whatever n is and however many there are."""
-    for count, number in ((510, 10), (511, 10), (512, 17)):
+    """RULES 14.6: 511 brackets may be open at once, whatever n is and however many there are."""
+    for count, refusal in ((510, (0, 0)), (511, (0, 0)), (512, (17, 511))):
         text = texts.text_of(texts.in_pairs([0, 1], count - 1))
-        assert verdict(2, text) == (number, 0 if number == 10 else 511)
+        assert verdict(2, text) == refusal
         assert verdict(2, b"(" * count) == (17, min(count, 511))
         lone = texts.text_of(texts.in_pairs(0, count))
-        assert verdict(2, lone) == ((18, 1) if number == 10 else (17, 511))
+        assert verdict(2, lone) == (refusal if refusal[0] else (18, 1))
     twice = texts.text_of([texts.in_pairs(0, 510), texts.in_pairs(1, 510)])
-    assert verdict(2, twice) == (10, 1)
+    assert read_row(2, twice) == ONLY_TREE_OF_2
     chain = texts.chain_nest(list(range(512)), True)
     assert read_row(512, texts.text_of(chain))[0] == 1023
     assert verdict(512, texts.text_of([chain])) == (17, 511)
@@ -289,29 +294,12 @@ def groups_in(lists: Union[int, list]) -> set[Group]:
     return {frozenset(numbers_in(lists))}.union(*map(groups_in, parts))
 
 
-def single_openings(text: bytes) -> list[int]:
-    """The opening brackets with no comma of their own before their closing ones."""
-    found, waiting = [], []
-    for place, byte in enumerate(text):
-        if byte == ord("("):
-            waiting.append((place, False))
-        elif byte == ord(","):
-            waiting[-1] = (waiting[-1][0], True)
-        elif byte == ord(")"):
-            opening, has_comma = waiting.pop()
-            found += [] if has_comma else [opening]
-    return sorted(found)
-
-
 def refusal_by_lists(n: int, text: bytes) -> tuple[int, int]:
     """What reading a text of the form answers, by its lists."""
     numbers = numbers_in(lists_in(text))
     repeated = {number for number in numbers if numbers.count(number) > 1}
     wrong = {*range(n)} ^ {*numbers} | repeated
-    if wrong:
-        return 18, min(wrong)
-    single = single_openings(text)
-    return (10, single[0]) if single else (0, 0)
+    return (18, min(wrong)) if wrong else (0, 0)
 
 
 def test_meaning_by_lists() -> None:
@@ -329,28 +317,29 @@ def test_meaning_by_lists() -> None:
             row = read_row(n, text)
             assert rules.groups_of(n, row) == groups_in(lists_in(text))
             assert rules.renumber(n, row, row).buffers[1] == row
-    assert came == {0, 10, 18}
+    assert came == {0, 18}
 
 
 # Writing
 
 
-def text_by_groups(labels: dict[Group, str], group: Group) -> str:
-    """The text of a group of a tree and of those within it, each with its label."""
-    if len(group) == 1:
-        return str(*group)
+def text_by_groups(labels: dict[Group, list[str]], group: Group) -> str:
+    """The text of a group of a tree and of those within it: a pair for each of its labels."""
     within = [other for other in labels if other < group]
     parts = [one for one in within if not any(one < other for other in within)]
-    inside = ",".join(text_by_groups(labels, part) for part in sorted(parts, key=min))
-    return f"({inside}){labels[group]}"
+    text = ",".join(text_by_groups(labels, part) for part in sorted(parts, key=min))
+    for label in labels[group]:
+        text = f"({text or min(group)}){label}"
+    return text or str(min(group))
 
 
 def by_groups(n: int, row: Words, support: Optional[Words]) -> bytes:
-    """The text of a row, by the groups of its nodes."""
-    labels = {}
-    for v in range(row[0]):
+    """The text of a row, by the groups of its nodes; of a chain, the lowest node comes first."""
+    labels: dict[Group, list[str]] = {}
+    for v in sorted(range(row[0]), key=lambda v: -len(path_up(row, v))):
         group = frozenset(s for s in range(n) if v in path_up(row, s))
-        labels[group] = "" if support is None or row[1 + v] == ROOT else str(support[1 + v])
+        label = "" if support is None or row[1 + v] == ROOT else str(support[1 + v])
+        labels.setdefault(group, []).extend([label] if v >= n else [])
     return f"{text_by_groups(labels, frozenset(range(n)))};".encode()
 
 
@@ -360,10 +349,11 @@ def path_up(row: Words, v: int) -> list[int]:
 
 
 def some_rows(rng: Random) -> list[tuple[int, Words]]:
-    """Every valid row of two to four samples, and some of more."""
+    """Every valid row of two to four samples; of more some with single branches and without."""
     small = [(n, row) for n in (2, 3, 4) for row in rows.valid_rows(n)]
-    sizes = [rng.randint(5, 14) for _ in range(60)]
-    return small + [(n, rows.valid_row(rng, n)) for n in sizes]
+    makes = [rows.valid_row, rows.single_branch_row] * 40
+    more = [(rng.randint(5, 14), make) for make in makes]
+    return small + [(n, make(rng, n)) for n, make in more]
 
 
 def test_writing_by_groups() -> None:
@@ -441,16 +431,17 @@ def test_makers_of_texts() -> None:
 
 
 def test_wrapped_nests() -> None:
-    """A nest with a pair around one subtree is refused with 10 at that pair."""
+    """A nest with pairs around one subtree is read as the nest."""
     rng = Random(38)
     for n in (2, 3, 7):
         nest = texts.any_nest(rng, n)
-        assert read_row(n, texts.text_of(nest))[0] == texts.subtrees(nest)
+        row = read_row(n, texts.text_of(nest))
+        assert row[0] == texts.subtrees(nest)
         for which in range(texts.subtrees(nest)):
             for count in (1, 3):
-                text = texts.text_of(texts.wrapped_at(nest, which, count))
-                openings = single_openings(text)
-                assert len(openings) == count and verdict(n, text) == (10, openings[0])
+                around = texts.wrapped_at(nest, which, count)
+                assert texts.subtrees(around) == texts.subtrees(nest) + count
+                assert read_row(n, texts.text_of(around)) == row
 
 
 def test_short_texts() -> None:
@@ -499,24 +490,23 @@ def test_stored_blanks() -> None:
 def test_stored_depths() -> None:
     """As many brackets are open at once as may be, one fewer and one more, at n of 2 and 512."""
     came = {(n, most_open(text), answer.number) for n, text, answer in stored_readings()}
-    assert {(2, 510, 10), (2, 511, 10), (2, 511, 18), (2, 512, 17), (511, 510, 0)} <= came
-    assert {(512, 511, 0), (512, 512, 17), (511, 511, 10)} <= came
+    assert {(2, 510, 0), (2, 511, 0), (2, 511, 18), (2, 512, 17), (511, 510, 0)} <= came
+    assert {(512, 511, 0), (512, 512, 17), (511, 511, 0)} <= came
 
 
 def test_stored_places_in_texts() -> None:
-    """17 at the start, at the end and far in; 18 up to the largest number; 10 from the start on."""
+    """17 at the start, at the end and far in; 18 up to the largest number."""
     came = {answer[:2] for _, _, answer in stored_readings()}
     at_end = [text for _, text, answer in stored_readings() if answer[:2] == (17, len(text))]
     assert {(17, 0), (17, 511)} <= came and len(at_end) > 100
     assert {(18, place) for place in (0, 1, 511, 512, 65535, 65536, 99999)} <= came
-    assert {(10, 0), (10, 1)} <= came
-    for number in (10, 17):
-        assert max(place for other, place in came if other == number) > 8192
+    assert max(place for number, place in came if number == 17) > 8192
 
 
 def test_stored_writings() -> None:
     """Every valid row of two to four samples is written in both ways, into buffers of any kind."""
-    made = [call for call in calls_newick_write.stored() if call.op == calls.WRITE]
+    stored = [*calls_newick_write.stored(), *calls_single_branches.stored()]
+    made = [call for call in stored if call.op == calls.WRITE]
     came = {(call.x, call.y, *call.buffers[0]) for call in made}
     for n in (2, 3, 4):
         assert {(n, y, *row) for y in (0, 1) for row in rows.valid_rows(n)} <= came

@@ -21,10 +21,12 @@ import rules  # noqa: E402
 import shapes  # noqa: E402
 import test_makers  # noqa: E402
 import test_newick  # noqa: E402
+import test_single_branches  # noqa: E402
 import thresholds  # noqa: E402
 from listing import listed  # noqa: E402
 from rules import BY_DEFAULT, ROOT, Tree, Words  # noqa: E402
-from specimens import BARE_3, ONLY_TREE_OF_2, RUNS_OF_5, WITH_01, WITH_02  # noqa: E402
+from specimens import BARE_3, BRANCH_0, CHAIN_MIDDLE, CHAIN_ROOT, CHILDLESS_3  # noqa: E402
+from specimens import ONLY_TREE_OF_2, RUNS_OF_5, SINGLE_BRANCHES, WITH_01, WITH_02  # noqa: E402
 
 RUN_1, RUN_2, RUN_3 = RUNS_OF_5
 
@@ -100,7 +102,7 @@ def test_specimens_of_three() -> None:
     refusal_leaves_all(rules.judge(3, [4, 3, 3, 3, ROOT, 7]), 8, 5, [4, 3, 3, 3, ROOT, 7])
     assert verdict(rules.judge(3, BARE_3)) == (0, 0)
     assert verdict(rules.judge(3, [5, 3, 3, 3, ROOT, 4])) == (9, 4)
-    assert verdict(rules.judge(3, [5, 4, 3, 3, ROOT, 3])) == (10, 4)
+    assert verdict(rules.judge(3, [5, 3, 3, 3, ROOT, 3])) == (10, 4)
     assert verdict(rules.judge(3, [5, 2, 3, 3, ROOT, 3])) == (6, 0)
     assert verdict(rules.judge(3, [5, 4, 4, 3, ROOT, ROOT])) == (7, 0)
 
@@ -109,6 +111,33 @@ def test_nodes_of_three_or_six() -> None:
     """RULES 10.4: a first word of 3 or 6, whatever the others are."""
     for m, *rest in product([3, 6], *[[0, 3, 4, ROOT]] * 5):
         assert verdict(rules.judge(3, [m, *rest])) == (5, 0)
+
+
+def test_specimens_of_single_branches() -> None:
+    """RULES 10.15: a node above one sample, a chain at the root, a chain in the middle."""
+    for n, row, becomes, _ in SINGLE_BRANCHES:
+        assert verdict(rules.judge(n, row)) == (0, 0)
+        assert rules.renumber(n, row, [1] * 2 * n) == (0, 0, None, [row, becomes])
+        assert rules.renumber(n, becomes, [1] * 2 * n).buffers[1] == becomes
+    becomes = [6, 5, 5, 4, 4, ROOT, 4, 0]
+    assert rules.compare(4, CHAIN_MIDDLE, becomes).counts == (1, 0, 0)
+    assert rules.compare(4, CHAIN_MIDDLE, CHAIN_MIDDLE).counts == (1, 0, 0)
+    assert rules.compare(3, BRANCH_0, CHAIN_ROOT).counts == (0, 0, 0)
+    assert rules.compare(3, WITH_01, BRANCH_0).counts == (0, 1, 0)
+
+
+def test_single_branches_in_studies() -> None:
+    """RULES 4.5: a run is stored with each group once; another form of it is not well formed."""
+    for n, row, becomes, _ in SINGLE_BRANCHES:
+        assert study_of(n, [row, becomes]) == study_of(n, [becomes, row])
+        words = study_of(n, [row])
+        assert words[8 : 9 + 2 * n] == [1, *becomes] and words[5] == 1
+        stored = words[:9] + row + words[9 + 2 * n :]
+        refusal_leaves_all(rules.withdraw(stored, 1), 2, 0, stored)
+        refusal_leaves_all(rules.add(stored, 2, becomes), 2, 0, stored, becomes)
+        refusal_leaves_all(rules.report(stored, 0, [], []), 2, 0, stored, [], [])
+    halves = study_of(4, [CHAIN_MIDDLE, [5, 4, 4, 4, 4, ROOT, 0, 0], CHAIN_MIDDLE])
+    assert reported(halves, 4) == [[6, 5, 5, 4, 4, ROOT, 4, 0], [3, 3, 3, 3, 3, 3, 2, 0]]
 
 
 def test_sizes() -> None:
@@ -255,27 +284,27 @@ ROWS_REFUSED = [
     (9, 2, [5, 3, 3, 4, ROOT, 4]),
     (9, 3, [5, 4, 4, 4, 3, ROOT]),
     (9, 4, [5, 3, 3, 3, ROOT, 4]),
-    (10, 3, [5, 4, 4, 4, ROOT, 3]),
-    (10, 3, [5, 3, 4, 4, 4, ROOT]),
     (10, 3, [5, 4, 4, 4, 4, ROOT]),
-    (10, 4, [5, 4, 3, 3, ROOT, 3]),
     (10, 4, [5, 3, 3, 3, ROOT, 3]),
-    (10, 4, [5, 3, 3, 3, 4, ROOT]),
 ]
 
 
 def test_last_checks_of_four() -> None:
-    """RULES 7.5, lines 9 and 10: cycles of one and two nodes, few children, the deepest tree."""
+    """RULES 7.5, lines 9 and 10: cycles of one and two nodes, no child, one, the deepest tree."""
     cases = [
         (9, 5, [7, 4, 4, 4, 4, ROOT, 6, 5]),
         (9, 4, [7, 6, 6, 6, 6, 5, 4, ROOT]),
         (9, 3, [7, 4, 4, 4, 6, ROOT, 6, 5]),
         (9, 0, [7, 5, 4, 4, 4, ROOT, 6, 6]),
         (9, 6, [7, 5, 5, 4, 4, ROOT, 4, 6]),
-        (10, 4, [7, 5, 6, 6, 5, ROOT, 4, 5]),
-        (10, 5, [7, 4, 4, 6, 6, ROOT, 4, 5]),
+        (10, 4, [7, 5, 5, 5, 6, 5, ROOT, 5]),
         (10, 5, [7, 4, 4, 4, 4, ROOT, 4, 4]),
+        (10, 5, [7, 4, 4, 4, 6, ROOT, 4, 4]),
         (10, 6, [7, 4, 4, 5, 5, ROOT, 4, 4]),
+        (0, 0, [7, 5, 6, 6, 5, ROOT, 4, 5]),
+        (0, 0, [7, 4, 4, 6, 6, ROOT, 4, 5]),
+        (0, 0, [7, 4, 4, 4, 6, ROOT, 4, 5]),
+        (0, 0, [7, 6, 6, 6, 6, ROOT, 4, 5]),
         (0, 0, [7, 6, 6, 5, 4, ROOT, 4, 5]),
         (0, 0, [7, 4, 4, 5, 6, 5, 6, ROOT]),
     ]
@@ -438,9 +467,9 @@ def test_capacity() -> None:
 def test_refusals_of_studies() -> None:
     """4, 11, 12 and 13, and what goes before them."""
     words = added(opened(3, 22), 6, WITH_01)
-    bad = [5, 4, 3, 3, ROOT, 3]
-    refusal_leaves_all(rules.add(words, 0, bad), 4, 0, words, bad)
-    refusal_leaves_all(rules.add(words, 6, bad), 10, 4, words, bad)
+    refusal_leaves_all(rules.add(words, 0, CHILDLESS_3), 4, 0, words, CHILDLESS_3)
+    refusal_leaves_all(rules.add(words, 6, CHILDLESS_3), 10, 4, words, CHILDLESS_3)
+    refusal_leaves_all(rules.add(words, 6, BRANCH_0), 11, 0, words, BRANCH_0)
     refusal_leaves_all(rules.add(words, 6, WITH_02), 11, 0, words, WITH_02)
     words = added(words, 5, WITH_02)
     assert words == [65, 82, 66, 1, 3, 2, 0, 0, 5, *WITH_02, 6, *WITH_01]
@@ -579,10 +608,28 @@ def test_refused_slots() -> None:
 
 
 def test_slots_refused_by_last_checks() -> None:
-    """The files made for 9 and 10 are refused so: of each n four with 9, then two with 10."""
-    made = list(files.refused_by_last_checks(Random(1)))
+    """Of each n four files are refused with 9; the next two with 10, or have a single branch."""
+    made = list(files.refused_by_last_checks(Random(files.LAST_CHECKS_SEED)))
     numbers = [listing.number_in(listed(data)) for data in made]
-    assert numbers == [9, 9, 9, 9, 10, 10] * (len(made) // 6)
+    for i in range(0, len(made), 6):
+        assert numbers[i : i + 4] == [9] * 4 and {*numbers[i + 4 : i + 6]} <= {0, 10}
+    assert numbers.count(10) > 3
+
+
+def test_single_branches_listed() -> None:
+    """Files with single branches are listed as those without; 10 only where a child lacks."""
+    plain = files.file_of(4, [[1, *SINGLE_BRANCHES[2][2]], [2, 5, 4, 4, 4, 4, ROOT, 0, 0]])
+    chain = files.file_of(4, [[1, *CHAIN_MIDDLE], [2, 6, 4, 4, 4, 4, ROOT, 4, 0]])
+    assert listed(chain) == b"refused 10 1 5\n"
+    chain = files.file_of(4, [[1, *CHAIN_MIDDLE], [2, 6, 5, 5, 5, 5, ROOT, 4, 0]])
+    assert listed(chain) == listed(plain) == b"ARB 1 4 2\n4 - 2 0 1 2 3\n"
+    assert listed(files.file_of(3, [[7, *BRANCH_0]])) == b"ARB 1 3 1\n3 - 1 0 1 2\n"
+    made = list(files.single_branches(Random(1)))
+    while made:
+        (with_branches, without, childless), made = made[:3], made[3:]
+        assert with_branches != without and listed(with_branches) == listed(without)
+        assert listing.number_in(listed(with_branches)) == 0
+        assert listing.number_in(listed(childless)) == 10
 
 
 def test_more_slots_than_runs() -> None:
@@ -642,8 +689,9 @@ def passes(test: Callable[[], None]) -> bool:
 
 
 def main() -> int:
-    """Runs every test, here, of the makers and of Newick texts."""
-    named = [*vars(test_makers).items(), *vars(test_newick).items(), *globals().items()]
+    """Runs every test, here, of the makers, of Newick texts and of single branches."""
+    modules = (test_makers, test_newick, test_single_branches)
+    named = [item for module in modules for item in vars(module).items()] + [*globals().items()]
     tests = [test for name, test in named if name.startswith("test_") and callable(test)]
     passed = sum(map(passes, tests))
     print(f"{passed} passed, {len(tests) - passed} failed")

@@ -123,7 +123,7 @@ comparing-unpacked n r q = chain-unpacked countsIn (compareChecks n r q) (compar
 pub reading-unpacked : (n : ℕ) (l out : List ℕ) → length l < places → unpacked (packed (reading n l out .verdict)) ≡ reading n l out .verdict
 unfolding reading every
 reading-unpacked n l out h =
-    chain-back (readChecks n (parsed l) (length l) out) (ap (every fits) (reading-numbers n l out)) (reading-placed n l out places h (omega arith))
+    chain-back (readChecks n (parsed l) out) (ap (every fits) (reading-numbers n l out)) (reading-placed n l out places h (omega arith))
 
 length-back : (k : ℕ) → k < places → Back lengthIn (wrote k)
 length-back k h = (omega arith, ap wrote (omega arith))

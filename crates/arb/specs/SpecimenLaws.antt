@@ -2,17 +2,17 @@
 use Prim.Native.Nat.{ℕ, _≤_, _<_}
 use mathlib.Core.Path.{_≡_, refl, sym, ap, _∙_}
 use mathlib.Core.List.{List, [], _∷_, _++_, List·Memᴰ, List·Memᴰ·head, List·Memᴰ·tail}
-use mathlib.Core.Bool.{Bool, true, _&&_, cond}
+use mathlib.Core.Bool.{Bool, true, false, _&&_, cond}
 use native.Mathlib.Omega.{arith}
 use lib.Dec.{eqb, ltb, leb}
 use lib.ListN.{length, drop}
 use borrow.Author.Tests.{leb-true, eq-eqb, lt-ltb}
 use Rattle.trees.specs.Lists.{tabulate, filter, first, weigh}
 use Rattle.trees.specs.Groups.{size, lowest, same, listFirst, before, member}
-use Rattle.trees.specs.Rows.{nodes, parent, meets, ends, groupAt, groups}
+use Rattle.trees.specs.Rows.{nodes, parent, meets, ends, groupAt, groups, inner}
 use Rattle.trees.specs.Lists.{nowhere}
 use Rattle.trees.specs.Checks.{Verdict, accepted, refused, wrote, Check, _⊳_, rowWords, outside, check1, rowChecks, judgeChecks, judged}
-use Rattle.trees.specs.Valid.{isAccepted}
+use Rattle.trees.specs.Valid.{isAccepted, inOrder, standard}
 use Rattle.trees.specs.Numbering.{enter, ordered, groupSet, lastWith, parents, rowOf, renumbered}
 use Rattle.trees.specs.Comparing.{nontrivial, compared}
 use Rattle.trees.specs.Outcomes.{Outcome}
@@ -23,8 +23,9 @@ use Rattle.trees.specs.Majority.{isShown}
 use Rattle.trees.specs.BoolLaws.{and-l, and-r}
 use Rattle.trees.specs.ValidLaws.{accepted-to, judged-valid, only-two, nodes-refused}
 use Rattle.trees.specs.RowCallLaws.{renumbering-accepts}
-use Rattle.runs.specs.Runs.{every, find, insertRun}
+use Rattle.runs.specs.Runs.{every, rising, find, insertRun}
 use Rattle.runs.specs.Words.{samples, inForce, runs, slots, encode, capacity, mostIdentifier}
+use Rattle.runs.specs.Formed.{sameWords, wellFormed}
 use Rattle.runs.specs.Calls.{opened}
 use Rattle.runs.specs.Histories.{Distinct, identified, adds, studyAfter}
 use Rattle.runs.specs.Reports.{Report, ruleOf, reported}
@@ -38,14 +39,15 @@ use Rattle.ascii.specs.Decimal.{digits, decimal}
 use Rattle.newick.specs.Bytes.{kindOf}
 use Rattle.newick.specs.Tree.{depth}
 use Rattle.newick.specs.Walk.{parsed, walk, final, step, entered, begun, longer, shut, next, last}
-use Rattle.newick.specs.Meaning.{samplesIn, groupOf, groupsOf, groupsIn, above, lone, lonely, lonelyIn}
+use Rattle.newick.specs.Meaning.{samplesIn, groupOf, groupsOf, groupsIn, above}
 use Rattle.newick.specs.Meaning as meaning
 use Rattle.newick.specs.ReadCalls.{treeIn, textChecks, readChecks, rowIn, reading}
 use Rattle.newick.specs.RowText.{Wanted, Fitting, gather, byLowest, childrenOf, commas, listed, nodeText, written, check3Wanted, checkRoom, writeChecks, writing}
 use Rattle.newick.specs.RowText.Wanted.{plain, with-words}
 use Rattle.newick.specs.WriteLaws.{writing-accepts, writing-bytes}
 use Rattle.arb.specs.Specimens.{Says, renumbers, nodesGive, RunsGive, leaves, fills, shows, AllSay, nothing, _and_, run, row01, row02}
-use Rattle.arb.specs.Specimens.{caseRuns, trivialRow, trivialSupports, threeRuns, twoRuns, specimens}
+use Rattle.arb.specs.Specimens.{caseRuns, trivialRow, trivialSupports, threeRuns, twoRuns, specimens, bareRow, overOne, chainAtRoot}
+use Rattle.arb.specs.Specimens.{chainInside, chainOut, chainWords, oneRun, branchStored}
 
 -- ---- renumbering
 
@@ -128,13 +130,17 @@ reports-so n rs words p a s c f w x y l d e = record { opens = opens; takes = fi
 
 -- ---- texts
 
--- what lines 17, 18 and 10 answer
+-- what lines 17 and 18 answer
 abbrev Comes : ℕ → List ℕ → Verdict → Type 0
-Comes n l v = textChecks n (parsed l) (length l) ⊳ accepted ≡ v
+Comes n l v = textChecks n (parsed l) ⊳ accepted ≡ v
+
+-- a text passes them, and its tree makes this row
+abbrev Makes : ℕ → List ℕ → List ℕ → Type 0
+Makes n l r = Comes n l accepted × (rowIn n (treeIn (parsed l)) ≡ r)
 
 -- n and the output are in order, and what a text comes to decides
 text-decides : (n : ℕ) (l out : List ℕ) (v : Verdict) → check1 n .fault ≡ nowhere → Comes n l v → length out ≡ rowWords n
-    → readChecks n (parsed l) (length l) out ⊳ accepted ≡ v
+    → readChecks n (parsed l) out ⊳ accepted ≡ v
 unfolding readChecks _⊳_
 text-decides n l out v a e f = rw (a, eq-eqb (length out) (rowWords n) f) e
 
@@ -143,31 +149,28 @@ unread-so : (n : ℕ) (l : List ℕ) (v : Verdict) → check1 n .fault ≡ nowhe
 unfolding reading
 unread-so n l v a e out f = text-decides n l out v a e f
 
-reads-so : (n : ℕ) (l r : List ℕ) → check1 n .fault ≡ nowhere → Comes n l accepted → rowIn n (treeIn (parsed l)) ≡ r
-    → (out : List ℕ) → length out ≡ rowWords n → reading n l out ≡ leaves r
+reads-so : (n : ℕ) (l r : List ℕ) → check1 n .fault ≡ nowhere → Makes n l r → (out : List ℕ) → length out ≡ rowWords n → reading n l out ≡ leaves r
 unfolding reading
-reads-so n l r a e g out f = ap left (text-decides n l out accepted a e f) ∙ ap leaves g
+reads-so n l r a e out f = ap left (text-decides n l out accepted a (e .0) f) ∙ ap leaves (e .1)
   where
     left : Verdict → Outcome
     left v = record { verdict = v; words = cond (isAccepted v) (rowIn n (treeIn (parsed l))) out }
 
-texts-read : Comes 5 (ascii "(((0,1)2,2)2,(3,4)2);") accepted × Comes 5 (ascii "(((0,1),2),(3,4));") accepted × Comes 2 (ascii "(0,1);") accepted
-    × (rowIn 5 (treeIn (parsed (ascii "(((0,1)2,2)2,(3,4)2);"))) ≡ agreedRow)
-    × (rowIn 5 (treeIn (parsed (ascii "(((0,1),2),(3,4));"))) ≡ agreedRow)
-    × (rowIn 2 (treeIn (parsed (ascii "(0,1);"))) ≡ (3 ∷ 2 ∷ 2 ∷ 65535 ∷ []))
+texts-read : Makes 5 (ascii "(((0,1)2,2)2,(3,4)2);") agreedRow × Makes 5 (ascii "(((0,1),2),(3,4));") agreedRow
+    × Makes 2 (ascii "(0,1);") (3 ∷ 2 ∷ 2 ∷ 65535 ∷ []) × Makes 2 (ascii "(((0)),1);") (3 ∷ 2 ∷ 2 ∷ 65535 ∷ [])
+    × Makes 3 (ascii "((0),1,2);") bareRow × Makes 3 (ascii "((0,1,2));") bareRow
+    × Makes 4 (ascii "(((0,1)),2,3);") chainOut × Makes 4 (ascii "(((0,1)8)7,2,3);") chainOut
 unfolding textChecks rowIn _⊳_ parsed walk final step entered begun longer shut next last kindOf depth
-    meaning.samples samplesIn groupOf groupsOf groupsIn above lone lonely lonelyIn
+    meaning.samples samplesIn groupOf groupsOf groupsIn above
     filter tabulate first weigh size lowest before same listFirst enter ordered lastWith parents rowOf
-texts-read = (refl, refl, refl, refl, refl, refl)
+texts-read = ((refl, refl), (refl, refl), (refl, refl), (refl, refl), (refl, refl), (refl, refl), (refl, refl), (refl, refl))
 
 texts-unread : Comes 2 (ascii "(0,1") (refused 17 4) × Comes 2 (ascii "(00,1);") (refused 17 2) × Comes 2 (ascii "(0,123456);") (refused 17 8)
     × Comes 2 (ascii "(0 1);") (refused 17 3) × Comes 2 (ascii "(0,1):.5;") (refused 17 6) × Comes 2 (ascii "();") (refused 17 1)
     × Comes 2 (ascii "(0,0);") (refused 18 0) × Comes 2 (ascii "(0,2);") (refused 18 1) × Comes 2 (ascii "(0,1,7);") (refused 18 7)
-    × Comes 2 (ascii "0;") (refused 18 1) × Comes 2 (ascii "(((0)),1);") (refused 10 1)
-unfolding textChecks rowIn _⊳_ parsed walk final step entered begun longer shut next last kindOf depth
-    meaning.samples samplesIn groupOf groupsOf groupsIn above lone lonely lonelyIn
-    filter tabulate first weigh size lowest before same listFirst enter ordered lastWith parents rowOf
-texts-unread = (refl, refl, refl, refl, refl, refl, refl, refl, refl, refl, refl)
+    × Comes 2 (ascii "0;") (refused 18 1)
+unfolding textChecks _⊳_ parsed walk final step entered begun longer shut next last kindOf depth meaning.samples samplesIn above tabulate first weigh
+texts-unread = (refl, refl, refl, refl, refl, refl, refl, refl, refl, refl)
 
 -- the text of a valid row, in a buffer that is long enough
 writes-so : (n : ℕ) (r : List ℕ) (w : Wanted) (l : List ℕ) → judged n r ≡ accepted → Fitting n w → written n r w ≡ l
@@ -181,8 +184,10 @@ writes-so n r w l ok f e text h =
     outcome-same o v ws p q = rw (← p, ← q) refl
 
 texts-written : (written 5 agreedRow (with-words supportRow) ≡ ascii "(((0,1)2,2)2,(3,4)2);") × (written 5 agreedRow plain ≡ ascii "(((0,1),2),(3,4));")
+    × (written 3 overOne plain ≡ ascii "((0),1,2);") × (written 3 chainAtRoot plain ≡ ascii "((0,1,2));")
+    × (written 4 chainInside plain ≡ ascii "(((0,1)),2,3);") × (written 4 chainInside (with-words chainWords) ≡ ascii "(((0,1)8)7,2,3);")
 unfolding written nodeText listed commas childrenOf byLowest gather filter tabulate first weigh nodes parent meets groupAt lowest decimal digits
-texts-written = (refl, refl)
+texts-written = (refl, refl, refl, refl, refl, refl)
 
 -- 20 bytes are one too few for the first
 too-short : (text : List ℕ) → length text ≡ 20 → writing 5 agreedRow (with-words supportRow) text .verdict ≡ refused 3 0
@@ -219,6 +224,26 @@ two-runs = record {
   some = omega arith;
 }
 
+one-run : Stores 3 (run 1 overOne ∷ []) oneRun
+unfolding tabulate filter first weigh size lowest same listFirst before member nodes parent meets ends groupAt groups _⊳_ rowChecks judgeChecks judged
+    enter ordered groupSet lastWith parents rowOf renumbered every find insertRun gathered slots encode runs capacity
+one-run = record {
+  opens = λ w l. record { least = omega arith; most = omega arith; one = rw l (omega arith) };
+  once = (refl, tt);
+  fit = refl;
+  named = refl;
+  room = omega arith;
+  stores = refl;
+  over = refl;
+  some = omega arith;
+}
+
+-- the row that is stored has a node above one sample
+branch-stored : wellFormed branchStored ≡ false
+unfolding wellFormed standard tabulate first weigh nodes parent meets ends groupAt inner _⊳_ rowChecks judgeChecks judged inOrder before size same listFirst
+    every runs slots rising sameWords capacity
+branch-stored = refl
+
 three-shown : Shows threeRuns 0 agreedRow supportRow × Shows threeRuns 50 agreedRow supportRow × Shows threeRuns 66 agreedRow supportRow
     × Shows threeRuns 67 trivialRow trivialSupports × Shows threeRuns 100 trivialRow trivialSupports
 unfolding tabulate filter weigh size lowest same listFirst before member nodes parent meets groupAt groups
@@ -231,10 +256,24 @@ three-shown = (
   record { inRange = (omega arith, omega arith); row = refl; counts = refl },
 )
 
-two-shown : Shows twoRuns 0 (4 ∷ 3 ∷ 3 ∷ 3 ∷ 65535 ∷ 0 ∷ []) (2 ∷ 2 ∷ 2 ∷ 2 ∷ 2 ∷ 0 ∷ [])
+two-shown : Shows twoRuns 0 bareRow (2 ∷ 2 ∷ 2 ∷ 2 ∷ 2 ∷ 0 ∷ [])
 unfolding tabulate filter weigh size lowest same listFirst before member nodes parent meets groupAt groups
     enter ordered lastWith parents rowOf support total held shown agreed supportsOf runs threshold isShown
 two-shown = record { inRange = (omega arith, omega arith); row = refl; counts = refl }
+
+one-shown : Shows oneRun 0 bareRow (1 ∷ 1 ∷ 1 ∷ 1 ∷ 1 ∷ 0 ∷ [])
+unfolding tabulate filter weigh size lowest same listFirst before member nodes parent meets groupAt groups
+    enter ordered lastWith parents rowOf support total held shown agreed supportsOf runs threshold isShown
+one-shown = record { inRange = (omega arith, omega arith); row = refl; counts = refl }
+
+branches-out : Says (renumbers 3 overOne bareRow) × Says (renumbers 3 chainAtRoot bareRow) × Says (renumbers 4 chainInside chainOut)
+unfolding tabulate filter first weigh size lowest same listFirst before member nodes parent meets ends groupAt groups _⊳_ rowChecks judgeChecks judged
+    enter ordered groupSet lastWith parents rowOf renumbered
+branches-out = (
+  λ out. renumbers-so 3 overOne bareRow out refl refl,
+  λ out. renumbers-so 3 chainAtRoot bareRow out refl refl,
+  λ out. renumbers-so 4 chainInside chainOut out refl refl,
+)
 
 one-tree : Says (renumbers 3 (5 ∷ 3 ∷ 3 ∷ 4 ∷ 4 ∷ 65535 ∷ []) row01)
 unfolding tabulate filter first weigh size lowest same listFirst before member nodes parent meets ends groupAt groups _⊳_ rowChecks judgeChecks judged
@@ -274,9 +313,9 @@ specimens-hold =
     and writes-so 5 agreedRow (with-words supportRow) _ refl refl (texts-written .0)
     and writes-so 5 agreedRow plain _ refl tt (texts-written .1)
     and too-short
-    and reads-so 5 _ _ refl (texts-read .0) (texts-read .3)
-    and reads-so 5 _ _ refl (texts-read .1) (texts-read .4)
-    and reads-so 2 _ _ refl (texts-read .2) (texts-read .5)
+    and reads-so 5 _ _ refl (texts-read .0)
+    and reads-so 5 _ _ refl (texts-read .1)
+    and reads-so 2 _ _ refl (texts-read .2)
     and unread-so 2 _ _ refl (texts-unread .0)
     and unread-so 2 _ _ refl (texts-unread .1)
     and unread-so 2 _ _ refl (texts-unread .2)
@@ -287,5 +326,22 @@ specimens-hold =
     and unread-so 2 _ _ refl (texts-unread .7)
     and unread-so 2 _ _ refl (texts-unread .8)
     and unread-so 2 _ _ refl (texts-unread .9)
-    and unread-so 2 _ _ refl (texts-unread .10)
+    and reads-so 2 _ _ refl (texts-read .3)
+    and refl
+    and refl
+    and refl
+    and branches-out .0
+    and branches-out .1
+    and branches-out .2
+    and refl
+    and reports-so 3 _ _ _ _ _ one-run one-shown
+    and branch-stored
+    and writes-so 3 overOne plain _ refl tt (texts-written .2)
+    and writes-so 3 chainAtRoot plain _ refl tt (texts-written .3)
+    and writes-so 4 chainInside plain _ refl tt (texts-written .4)
+    and writes-so 4 chainInside (with-words chainWords) _ refl refl (texts-written .5)
+    and reads-so 3 _ _ refl (texts-read .4)
+    and reads-so 3 _ _ refl (texts-read .5)
+    and reads-so 4 _ _ refl (texts-read .6)
+    and reads-so 4 _ _ refl (texts-read .7)
     and nothing

@@ -1,8 +1,8 @@
--- The specimens that are proved (RULES 10.1 to 10.6, 10.11, 10.13, 10.14): one table, and what each of its rows says of the calls.
+-- The specimens that are proved (RULES 10.1 to 10.6, 10.11, 10.13 to 10.15): one table, and what each of its rows says of the calls.
 use Prim.Native.Nat.{ℕ}
 use mathlib.Core.Path.{_≡_}
 use mathlib.Core.List.{List, [], _∷_, _++_}
-use mathlib.Core.Bool.{true}
+use mathlib.Core.Bool.{true, false}
 use Prim.Native.Nat.{_≤_}
 use lib.ListN.{length, drop}
 use Rattle.trees.specs.Checks.{Verdict, accepted, refused, counted, wrote, rowWords, judged}
@@ -12,6 +12,7 @@ use Rattle.trees.specs.RowCalls.{renumbering, comparing}
 use Rattle.trees.specs.Reporting.{Run}
 use Rattle.trees.specs.Case.{row1, row2, row3, agreedRow, supportRow}
 use Rattle.runs.specs.Runs.{every}
+use Rattle.runs.specs.Formed.{wellFormed}
 use Rattle.runs.specs.Calls.{opened}
 use Rattle.runs.specs.Histories.{answers, studyAfter, adds}
 use Rattle.runs.specs.Reports.{Report, reported}
@@ -27,6 +28,7 @@ pub data Specimen : Type 0 where
   renumbers : ℕ → List ℕ → List ℕ → Specimen
   compares : ℕ → List ℕ → List ℕ → Verdict → Specimen
   reports : ℕ → List Run → List ℕ → ℕ → List ℕ → List ℕ → Specimen
+  unformed : List ℕ → Specimen
   reads : ℕ → List ℕ → List ℕ → Specimen
   unread : ℕ → List ℕ → Verdict → Specimen
   writes : ℕ → List ℕ → Wanted → List ℕ → Specimen
@@ -53,7 +55,7 @@ pub record RunsGive (n : ℕ) (rs : List Run) (words : List ℕ) (p : ℕ) (a s 
 
 -- judging or comparing these words answers this; it is the only tree over n samples; a row of 2n words that begins with m is judged so,
 -- whatever its other words are; renumbering these words leaves those, whatever the output held; so does reporting on runs that were added;
--- reading this text leaves these words, or answers this; writing this row leaves this text in front, in any buffer that is as long or longer,
+-- these words are no study that is well formed; reading this text leaves these words, or answers this; writing this row leaves this text in front, in any buffer that is as long or longer,
 -- or answers this, in any buffer of so many bytes
 abbrev pub Says : Specimen → Type 0
 Says (judges n r v) = judged n r ≡ v
@@ -62,6 +64,7 @@ Says (nodesGive n m v) = (ws : List ℕ) → length (m ∷ ws) ≡ rowWords n �
 Says (renumbers n r q) = (out : List ℕ) → length out ≡ rowWords n → renumbering n r out ≡ leaves q
 Says (compares n r q v) = comparing n r q ≡ v
 Says (reports n rs words p a s) = (w x y : List ℕ) → length w ≡ length words → length x ≡ rowWords n → length y ≡ rowWords n → RunsGive n rs words p a s w x y
+Says (unformed words) = wellFormed words ≡ false
 Says (reads n l r) = (out : List ℕ) → length out ≡ rowWords n → reading n l out ≡ leaves r
 Says (unread n l v) = (out : List ℕ) → length out ≡ rowWords n → reading n l out .verdict ≡ v
 Says (writes n r w l) = (text : List ℕ) → length l ≤ length text → writing n r w text ≡ fills l text
@@ -83,6 +86,26 @@ row01 = 5 ∷ 4 ∷ 4 ∷ 3 ∷ 65535 ∷ 3 ∷ []
 abbrev pub row02 : List ℕ
 row02 = 5 ∷ 4 ∷ 3 ∷ 4 ∷ 65535 ∷ 3 ∷ []
 
+-- the tree of three samples that has trivial groups alone; it once more with a node above one sample, and with a chain at the root
+abbrev pub bareRow : List ℕ
+bareRow = 4 ∷ 3 ∷ 3 ∷ 3 ∷ 65535 ∷ 0 ∷ []
+
+abbrev pub overOne : List ℕ
+overOne = 5 ∷ 4 ∷ 3 ∷ 3 ∷ 65535 ∷ 3 ∷ []
+
+abbrev pub chainAtRoot : List ℕ
+chainAtRoot = 5 ∷ 4 ∷ 4 ∷ 4 ∷ 65535 ∷ 3 ∷ []
+
+-- four samples with the group {0,1}, of a chain and of one node; and words of a support row for the chain
+abbrev pub chainInside : List ℕ
+chainInside = 7 ∷ 6 ∷ 6 ∷ 4 ∷ 4 ∷ 65535 ∷ 4 ∷ 5 ∷ []
+
+abbrev pub chainOut : List ℕ
+chainOut = 6 ∷ 5 ∷ 5 ∷ 4 ∷ 4 ∷ 65535 ∷ 4 ∷ 0 ∷ []
+
+abbrev pub chainWords : List ℕ
+chainWords = 9 ∷ 9 ∷ 9 ∷ 9 ∷ 9 ∷ 9 ∷ 7 ∷ 8 ∷ []
+
 -- the three runs; and the row of five samples that has trivial groups alone, with its support row where three runs are in force
 abbrev pub caseRuns : List Run
 caseRuns = run 1 row1 ∷ run 2 row2 ∷ run 3 row3 ∷ []
@@ -100,6 +123,13 @@ threeRuns = (65 ∷ 82 ∷ 66 ∷ 1 ∷ 5 ∷ 3 ∷ 0 ∷ 0 ∷ []) ++ (1 ∷ ro
 abbrev pub twoRuns : List ℕ
 twoRuns = (65 ∷ 82 ∷ 66 ∷ 1 ∷ 3 ∷ 2 ∷ 0 ∷ 0 ∷ []) ++ (1 ∷ row01) ++ (2 ∷ row02)
 
+-- a study over three samples with one run, which is stored without its single branch; and with it, which no call writes
+abbrev pub oneRun : List ℕ
+oneRun = (65 ∷ 82 ∷ 66 ∷ 1 ∷ 3 ∷ 1 ∷ 0 ∷ 0 ∷ []) ++ (1 ∷ bareRow)
+
+abbrev pub branchStored : List ℕ
+branchStored = (65 ∷ 82 ∷ 66 ∷ 1 ∷ 3 ∷ 1 ∷ 0 ∷ 0 ∷ []) ++ (1 ∷ overOne)
+
 abbrev pub specimens : List Specimen
 specimens =
     -- the three runs (RULES 10.1): the study's 41 words, the agreed row, the support row
@@ -113,15 +143,15 @@ specimens =
     ∷ renumbers 3 (5 ∷ 3 ∷ 3 ∷ 4 ∷ 4 ∷ 65535 ∷ []) row01
     -- rows over three samples, judged (RULES 10.4)
     ∷ judges 3 (4 ∷ 3 ∷ 3 ∷ 3 ∷ 65535 ∷ 7 ∷ []) (refused 8 5)
-    ∷ judges 3 (4 ∷ 3 ∷ 3 ∷ 3 ∷ 65535 ∷ 0 ∷ []) accepted
+    ∷ judges 3 bareRow accepted
     ∷ judges 3 (5 ∷ 3 ∷ 3 ∷ 3 ∷ 65535 ∷ 4 ∷ []) (refused 9 4)
-    ∷ judges 3 (5 ∷ 4 ∷ 3 ∷ 3 ∷ 65535 ∷ 3 ∷ []) (refused 10 4)
+    ∷ judges 3 (5 ∷ 3 ∷ 3 ∷ 3 ∷ 65535 ∷ 3 ∷ []) (refused 10 4)
     ∷ judges 3 (5 ∷ 2 ∷ 3 ∷ 3 ∷ 65535 ∷ 3 ∷ []) (refused 6 0)
     ∷ judges 3 (5 ∷ 4 ∷ 4 ∷ 3 ∷ 65535 ∷ 65535 ∷ []) (refused 7 0)
     ∷ nodesGive 3 3 (refused 5 0)
     ∷ nodesGive 3 6 (refused 5 0)
     -- two runs in conflict (RULES 10.5)
-    ∷ reports 3 (run 1 row01 ∷ run 2 row02 ∷ []) twoRuns 0 (4 ∷ 3 ∷ 3 ∷ 3 ∷ 65535 ∷ 0 ∷ []) (2 ∷ 2 ∷ 2 ∷ 2 ∷ 2 ∷ 0 ∷ [])
+    ∷ reports 3 (run 1 row01 ∷ run 2 row02 ∷ []) twoRuns 0 bareRow (2 ∷ 2 ∷ 2 ∷ 2 ∷ 2 ∷ 0 ∷ [])
     -- comparisons (RULES 10.6): of the second one the two sides differ; then one tree in two numberings, and that of two samples
     ∷ compares 5 row1 row2 (counted 1 1 1)
     ∷ compares 5 row1 row3 (counted 1 1 2)
@@ -150,5 +180,23 @@ specimens =
     ∷ unread 2 (ascii "(0,2);") (refused 18 1)
     ∷ unread 2 (ascii "(0,1,7);") (refused 18 7)
     ∷ unread 2 (ascii "0;") (refused 18 1)
-    ∷ unread 2 (ascii "(((0)),1);") (refused 10 1)
+    ∷ reads 2 (ascii "(((0)),1);") (3 ∷ 2 ∷ 2 ∷ 65535 ∷ [])
+    -- single branches (RULES 10.15): judged, renumbered, compared, stored, written and read
+    ∷ judges 3 overOne accepted
+    ∷ judges 3 chainAtRoot accepted
+    ∷ judges 4 chainInside accepted
+    ∷ renumbers 3 overOne bareRow
+    ∷ renumbers 3 chainAtRoot bareRow
+    ∷ renumbers 4 chainInside chainOut
+    ∷ compares 4 chainInside chainOut (counted 1 0 0)
+    ∷ reports 3 (run 1 overOne ∷ []) oneRun 0 bareRow (1 ∷ 1 ∷ 1 ∷ 1 ∷ 1 ∷ 0 ∷ [])
+    ∷ unformed branchStored
+    ∷ writes 3 overOne plain (ascii "((0),1,2);")
+    ∷ writes 3 chainAtRoot plain (ascii "((0,1,2));")
+    ∷ writes 4 chainInside plain (ascii "(((0,1)),2,3);")
+    ∷ writes 4 chainInside (with-words chainWords) (ascii "(((0,1)8)7,2,3);")
+    ∷ reads 3 (ascii "((0),1,2);") bareRow
+    ∷ reads 3 (ascii "((0,1,2));") bareRow
+    ∷ reads 4 (ascii "(((0,1)),2,3);") chainOut
+    ∷ reads 4 (ascii "(((0,1)8)7,2,3);") chainOut
     ∷ []

@@ -43,7 +43,7 @@ module _ (n : ℕ) (r q : List ℕ) (a : Standard n r) (b : Standard n q) where
   mates-held t is = count-same _ _ (range (n + 1) (nodes r)) (λ v m. let i = in-range (n + 1) (nodes r) v m in held v (omega arith) (i .1))
     where
       held : (v : ℕ) → n < v → v < nodes r → not (eqb (getD t v 0) noMate) ≡ holds n (groupAt n r v) q
-      held v h k = ap (λ (x : ℕ). not (eqb x noMate)) (is .is v (omega arith) k) ∙ mate-holds n r q v b (inner-two n r (a .valid) v (omega arith) k)
+      held v h k = ap (λ (x : ℕ). not (eqb x noMate)) (is .is v (omega arith) k) ∙ mate-holds n r q v b (inner-two n r a v (omega arith) k)
 
   module _ (k : ℕ) (e : k ≡ count (λ v. holds n (groupAt n r v) q) (range (n + 1) (nodes r))) where
     is-shared : k ≡ shared (nontrivial n r) (nontrivial n q)

@@ -47,7 +47,7 @@ pub tallied : (n : ℕ) (q r mate old t : List ℕ) → Standard n q → Standar
     → Tabled (withMate mate old) n (nodes q) t → Tabled (withRun n q r old) n (nodes q) t
 tallied n q r mate old t qs rs m i = record {
   is = λ v h k. i .is v h k ∙ ap (λ (b : Bool). entry old v + cond b 1 0)
-      (ap (λ (b : ℕ). not (eqb b noMate)) (m .is v h k) ∙ mate-holds n q r v rs (inner-two n q (qs .valid) v h k));
+      (ap (λ (b : ℕ). not (eqb b noMate)) (m .is v h k) ∙ mate-holds n q r v rs (inner-two n q qs v h k));
 }
 
 -- ---- the runs one by one

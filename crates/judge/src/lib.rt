@@ -64,7 +64,7 @@ pub const MOST_SAMPLES: usize = 512;
 pub const ROOT_MARK: usize = 65535;
 
 // The children that an inner node has at least (check 10, RULES 7.5).
-pub const FEWEST_CHILDREN: usize = 2;
+pub const FEWEST_CHILDREN: usize = 1;
 
 // A word as a count or an index.
 pub fn wide(x: u16) -> usize
@@ -233,7 +233,7 @@ fn climbing(row: &[u16]) -> Answer
     Answer::Accepted
 }
 
-// Check 10: the lowest inner node with one child or none (RULES 7.5).
+// Check 10: the lowest inner node with no child at all (RULES 7.5).
 // For judging, which keeps no table: the row is scanned for each inner node. The other calls use the form of `quick`.
 fn branching(n: usize, row: &[u16]) -> Answer
     requires { ⌜ nodes (now row) < length (now row) ⌝ }

@@ -1,6 +1,6 @@
 -- A subtree that is a sample, and the loop over the subtrees of a pair: its start, a comma, the closing bracket, a stop. Assumes nothing.
 use Prim.Native.Nat.{ℕ, _+_, _-_, _≤_, _<_}
-use mathlib.Core.Path.{_≡_, sym, subst, _∙_}
+use mathlib.Core.Path.{_≡_, sym, _∙_}
 use mathlib.Core.Logic.{⊎-elim}
 use mathlib.Core.List.{List}
 use native.Mathlib.Omega.{arith}
@@ -41,7 +41,7 @@ leaf-laid l p d x kept row marks r kept′ marks′ h T n k =
 
 pub loop-start : (l : List ℕ) (p d a : ℕ) (kept row marks : List ℕ) → Opens l p d a → Lent kept row marks → 1 ≤ keptIn kept .next
     → keptIn kept .next ≤ tableWords
-    → Paired l p d a kept row marks (a + 1) 0 kept row marks
+    → Paired l p d kept row marks (a + 1) 0 kept row marks
 loop-start l p d a kept row marks s n h k = record {
   some = s .some;
   inside = record { after = omega (arith, s .later); within = omega (arith, s .within); held = nothing; goes = s .goes };
@@ -49,10 +49,10 @@ loop-start l p d a kept row marks s n h k = record {
   lent = n;
 }
 
-module _ (l : List ℕ) (p d a : ℕ) (kept₀ row₀ marks₀ : List ℕ) (j v : ℕ) (kept row marks : List ℕ)
-    (P : Paired l p d a kept₀ row₀ marks₀ j v kept row marks) where
+module _ (l : List ℕ) (p d : ℕ) (kept₀ row₀ marks₀ : List ℕ) (j v : ℕ) (kept row marks : List ℕ)
+    (P : Paired l p d kept₀ row₀ marks₀ j v kept row marks) where
   pub loop-stops : (q : ℕ) → Stuck l j (d - 1) q → Stuck l p d q
-  loop-stops q s = inside-stuck l p d a j q (P .some) (P .inside) s
+  loop-stops q s = inside-stuck l p d j q (P .some) (P .inside) s
 
   -- after a subtree
   module _ (e : ℕ) (kept₁ row₁ marks₁ : List ℕ) (L : LaidTo l j (d - 1) kept row marks e kept₁ row₁ marks₁) where
@@ -75,7 +75,7 @@ module _ (l : List ℕ) (p d a : ℕ) (kept₀ row₀ marks₀ : List ℕ) (j v 
       loop-less = omega (arith, comma-within, L .whole .later)
 
       pub loop-again : (r : ℕ) (kept₂ row₂ : List ℕ) → Parts v kept₁ row₁ r kept₂ row₂ → Lent kept₀ row₀ marks₀
-          → Paired l p d a kept₀ row₀ marks₀ (e + 1) r kept₂ row₂ marks₁
+          → Paired l p d kept₀ row₀ marks₀ (e + 1) r kept₂ row₂ marks₁
       unfolding inside-again
       loop-again r kept₂ row₂ q n =
           let low : 1 ≤ keptIn kept₂ .next = omega (
@@ -89,30 +89,23 @@ module _ (l : List ℕ) (p d a : ℕ) (kept₀ row₀ marks₀ : List ℕ) (j v 
           let A = after-comma f (keptIn kept₀) row₀ marks₀ v kept₁ row₁ marks₁ after r kept₂ row₂ q low in
           record {
             some = P .some;
-            inside = inside-again l p d a j e (P .some) (P .inside) (L .whole) (sym i ∙ c);
+            inside = inside-again l p d j e (P .some) (P .inside) (L .whole) (sym i ∙ c);
             along = A;
             lent = along-lent (some f) (keptIn kept₀) kept₀ row₀ marks₀ r (keptIn kept₂) kept₂ row₂ marks₁ n A (q .words);
           }
 
     -- at another byte: the closing bracket with what follows it, or a stop
-    loop-shuts : (r : Progress) (kept₂ row₂ : List ℕ) → (getD l e 0 ≡ commaByte → ⊥) → Closed l a e v kept₁ row₁ r kept₂ row₂
-        → Lent kept₀ row₀ marks₀ → 1 ≤ keptIn kept₀ .next
-        → Laid l p d kept₀ row₀ marks₀ r kept₂ row₂ marks₁
+    pub loop-closes : (r : Progress) (kept₂ row₂ : List ℕ) → (getD l e 0 ≡ commaByte → ⊥) → Closed l e v kept₁ row₁ r kept₂ row₂
+        → Lent kept₀ row₀ marks₀ → Laid l p d kept₀ row₀ marks₀ r kept₂ row₂ marks₁
     unfolding inside-closes
-    loop-shuts (Reached g) kept₂ row₂ b q n h =
-        let M = after-shut f (keptIn kept₀) row₀ marks₀ v kept₁ row₁ marks₁ after a (q .marked .mark) kept₂ row₂ h (q .shuts) in
+    loop-closes (Reached g) kept₂ row₂ b q n =
+        let M = after-shut f (keptIn kept₀) row₀ marks₀ v kept₁ row₁ marks₁ after (q .marked .mark) kept₂ row₂ (q .shuts) in
         record {
-          whole = inside-closes l p d a j e (P .some) (P .inside) (L .whole) g (q .bracket) (q .marked);
+          whole = inside-closes l p d j e (P .some) (P .inside) (L .whole) g (q .bracket) (q .marked);
           lays = M;
-          lent = lays-lent (pair a f (q .marked .mark)) (keptIn kept₀) kept₀ row₀ marks₀ (keptIn kept₂) kept₂ row₂ marks₁ n M
+          lent = lays-lent (pair f (q .marked .mark)) (keptIn kept₀) kept₀ row₀ marks₀ (keptIn kept₂) kept₂ row₂ marks₁ n M
               (q .shuts .words);
         }
-    loop-shuts (Stopped g) kept₂ row₂ b q n h = ⊎-elim
-        (λ w. rw (w .0) (inside-ends l p d a j e (P .some) (P .inside) (L .whole) (w .1) b))
-        (λ w. inside-unclosed l p d a j e (P .some) (P .inside) (L .whole) g (w .0) (w .1)) q
-
-    pub loop-closes : (o : ℕ) (r : Progress) (kept₂ row₂ : List ℕ) → o ≡ a → (getD l e 0 ≡ commaByte → ⊥)
-        → Closed l o e v kept₁ row₁ r kept₂ row₂ → Lent kept₀ row₀ marks₀ → 1 ≤ keptIn kept₀ .next
-        → Laid l p d kept₀ row₀ marks₀ r kept₂ row₂ marks₁
-    loop-closes o r kept₂ row₂ i b q n h =
-        loop-shuts r kept₂ row₂ b (subst (λ (x : ℕ). Closed l x e v kept₁ row₁ r kept₂ row₂) i q) n h
+    loop-closes (Stopped g) kept₂ row₂ b q n = ⊎-elim
+        (λ w. rw (w .0) (inside-ends l p d j e (P .some) (P .inside) (L .whole) (w .1) b))
+        (λ w. inside-unclosed l p d j e (P .some) (P .inside) (L .whole) g (w .0) (w .1)) q

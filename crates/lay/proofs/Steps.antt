@@ -61,14 +61,13 @@ mark-again m x v h e = rw (h, ne-eqb (getD m x 0) 0 e) refl
 pub set-past : (m : List ℕ) (w i v : ℕ) → length m ≡ w → w ≤ i → m ≡ set m i v
 set-past m w i v e h = sym (set-out m i v (omega (arith, e)))
 
--- what holds of four numbers holds of what is kept
-kept-all : (P : List ℕ → Type 0) (w : List ℕ) → length w ≡ keptWords → ((a b c d : ℕ) → P (a ∷ b ∷ c ∷ d ∷ [])) → P w
+-- what holds of three numbers holds of what is kept
+kept-all : (P : List ℕ → Type 0) (w : List ℕ) → length w ≡ keptWords → ((a b c : ℕ) → P (a ∷ b ∷ c ∷ [])) → P w
 kept-all P [] e f = absurd (omega (arith, e))
 kept-all P (a ∷ []) e f = absurd (omega (arith, e))
 kept-all P (a ∷ b ∷ []) e f = absurd (omega (arith, e))
-kept-all P (a ∷ b ∷ c ∷ []) e f = absurd (omega (arith, e))
-kept-all P (a ∷ b ∷ c ∷ d ∷ []) e f = f a b c d
-kept-all P (a ∷ b ∷ c ∷ d ∷ x ∷ w) e f = absurd (omega (arith, e))
+kept-all P (a ∷ b ∷ c ∷ []) e f = f a b c
+kept-all P (a ∷ b ∷ c ∷ x ∷ w) e f = absurd (omega (arith, e))
 
 -- ---- a sample, a comma, a closing bracket
 
@@ -79,7 +78,7 @@ pub takes-by : (x : Number) (kept marks marks′ : List ℕ) (y : ℕ) → lengt
 takes-by x kept marks marks′ y e f = kept-all
     (λ k. y ≡ cond (ltb (x .value) mostSamples) (keptIn k .large) (lower (keptIn k .large) (x .value))
     → Takes x k marks (Reached (x .end)) (set (set k 2 y) 0 (x .value)) marks′)
-    kept e (λ a b c d g. record { reached = refl; words = refl; root = refl; next = refl; large = g; lone = refl; stands = f })
+    kept e (λ a b c g. record { reached = refl; words = refl; root = refl; next = refl; large = g; stands = f })
 
 pub parts-by : (v : ℕ) (kept row row′ : List ℕ) (r k : ℕ) → length kept ≡ keptWords → (r ≡ nodeOf v (keptIn kept .next)) × (r ≤ tableWords)
     → (k ≡ nextOf v (keptIn kept .next)) × (k ≤ tableWords) → row′ ≡ set row (keptIn kept .root + 1) r
@@ -87,46 +86,41 @@ pub parts-by : (v : ℕ) (kept row row′ : List ℕ) (r k : ℕ) → length kep
 parts-by v kept row row′ r k e = kept-all
     (λ w. (r ≡ nodeOf v (keptIn w .next)) × (r ≤ tableWords) → (k ≡ nextOf v (keptIn w .next)) × (k ≤ tableWords)
     → row′ ≡ set row (keptIn w .root + 1) r → Parts v w row r (set w 1 k) row′)
-    kept e (λ a b c d f g h. record {
+    kept e (λ a b c f g h. record {
       words = refl;
       node = f .0;
       next = g .0;
       large = refl;
-      lone = refl;
       links = h ∙ ap (set row (a + 1)) (f .0);
       small = f .1;
       most = g .1;
     })
 
-pub shuts-lone : (a v : ℕ) (kept row : List ℕ) (y : ℕ) → length kept ≡ keptWords → v ≡ 0 → y ≡ lower (keptIn kept .lone) a
-    → keptIn kept .root < sampleBound → Shuts a v kept row (set kept 3 y) row
-shuts-lone a v kept row y e z = kept-all
-    (λ w. y ≡ lower (keptIn w .lone) a → keptIn w .root < sampleBound → Shuts a v w row (set w 3 y) row)
-    kept e (λ i j c d f h. let q = eq-eqb v 0 z in record {
-      words = refl;
-      root = rw q refl;
-      next = refl;
-      large = refl;
-      lone = rw q f;
-      links = rw q refl;
-      small = h;
-    })
+pub shuts-single : (v : ℕ) (kept row : List ℕ) → length kept ≡ keptWords → v ≡ 0 → keptIn kept .root < sampleBound
+    → Shuts v kept row kept row
+shuts-single v kept row e z h = let q = eq-eqb v 0 z in record {
+  words = e;
+  root = rw q refl;
+  next = refl;
+  large = refl;
+  links = rw q refl;
+  small = h;
+}
 
-pub shuts-pair : (a v : ℕ) (kept row row′ : List ℕ) → length kept ≡ keptWords → (v ≡ 0 → ⊥) → row′ ≡ set row (keptIn kept .root + 1) v
-    → v ≤ tableWords → Shuts a v kept row (set kept 0 v) row′
-shuts-pair a v kept row row′ e z = kept-all
-    (λ w. row′ ≡ set row (keptIn w .root + 1) v → v ≤ tableWords → Shuts a v w row (set w 0 v) row′)
-    kept e (λ i j c d f h. let q = ne-eqb v 0 z in record {
+pub shuts-pair : (v : ℕ) (kept row row′ : List ℕ) → length kept ≡ keptWords → (v ≡ 0 → ⊥) → row′ ≡ set row (keptIn kept .root + 1) v
+    → v ≤ tableWords → Shuts v kept row (set kept 0 v) row′
+shuts-pair v kept row row′ e z = kept-all
+    (λ w. row′ ≡ set row (keptIn w .root + 1) v → v ≤ tableWords → Shuts v w row (set w 0 v) row′)
+    kept e (λ i j c f h. let q = ne-eqb v 0 z in record {
       words = refl;
       root = rw q refl;
       next = refl;
       large = refl;
-      lone = rw q refl;
       links = rw q f;
       small = omega arith;
     })
 
-pub closed-by : (l : List ℕ) (a e v : ℕ) (kept row : List ℕ) (p : Progress) (kept′ row′ : List ℕ) → getD l e 0 ≡ closingByte
-    → Closes l (e + 1) p → Shuts a v kept row kept′ row′ → Closed l a e v kept row p kept′ row′
-closed-by l a e v kept row (Reached f) kept′ row′ b c s = record { bracket = b; marked = c; shuts = s }
-closed-by l a e v kept row (Stopped q) kept′ row′ b c s = inr (b, c)
+pub closed-by : (l : List ℕ) (e v : ℕ) (kept row : List ℕ) (p : Progress) (kept′ row′ : List ℕ) → getD l e 0 ≡ closingByte
+    → Closes l (e + 1) p → Shuts v kept row kept′ row′ → Closed l e v kept row p kept′ row′
+closed-by l e v kept row (Reached f) kept′ row′ b c s = record { bracket = b; marked = c; shuts = s }
+closed-by l e v kept row (Stopped q) kept′ row′ b c s = inr (b, c)

@@ -1,5 +1,5 @@
--- The marks and the lowest numbers that a reading keeps decide the checks 18 and 10; where both pass, the row that is laid renumbers to the
--- row of the text. Assumes nothing.
+-- The marks and the lowest number that a reading keeps decide check 18; where it passes, the row that is laid renumbers to the row of the
+-- text. Assumes nothing.
 use Prim.Native.Nat.{ℕ, zero, suc, _+_, _-_, _≤_, _<_, zero-le, max}
 use mathlib.Core.Path.{_≡_, refl, sym, ap, _∙_}
 use mathlib.Core.Logic.{_⊎_, inl, inr, ⊎-elim}
@@ -10,15 +10,15 @@ use native.Mathlib.Omega.{arith}
 use lib.Dec.{eqb, ltb, leb}
 use lib.ListN.{length, getD, set, length-set}
 use lib.Seq.{getD-set-same, getD-set-other}
-use borrow.Author.Tests.{ltb-true, ltb-false, le-ltb, leb-true, leb-false, le-leb, eqb-true, eqb-false, eq-eqb, ne-eqb}
+use borrow.Author.Tests.{ltb-true, ltb-false, le-ltb, leb-true, leb-false, eqb-true, eqb-false, eq-eqb, ne-eqb}
 use Rattle.trees.specs.Lists.{nowhere, range, zeros, first, weigh}
 use Rattle.trees.specs.BoolLaws.{decide}
 use Rattle.trees.specs.ListLaws.{Lowest, Scan, scan, found, missed, lowest-first, nowhere-first, length-zeros, getD-zeros}
 use Rattle.trees.specs.Numbering.{renumbered}
 use Rattle.trees.specs.Checks.{mostSamples}
 use Rattle.newick.specs.Tree.{Tree}
-use Rattle.newick.specs.Meaning.{samples, times, among, amiss, above, lonely}
-use Rattle.newick.specs.ReadCalls.{check18, checkLone, rowIn}
+use Rattle.newick.specs.Meaning.{samples, times, amiss, above}
+use Rattle.newick.specs.ReadCalls.{check18, rowIn}
 use Rattle.newick.specs.FaultLaws.{above-more, stands-exactly}
 use Rattle.newick.specs.RoundTrip.{row-in}
 use Rattle.newick.specs.Grammar.{sampleBound}
@@ -169,26 +169,6 @@ module _ (n : ℕ) (most : n ≤ mostSamples) (t : Tree) (marks : List ℕ) (e :
           none j i = ⊎-elim (λ w. let u = leb-true 1 (times j xs) w in
               absurd (omega (arith, h j u, u, L .none j i (omega (arith, h j u, ltb-false m sampleBound d)))))
               (λ w. omega (arith, leb-false 1 (times j xs) w)) (decide (leb 1 (times j xs)))
-
--- ---- 10
-
-pub placeLone : (k : ℕ) (t : Tree) → checkLone k t .fault ≡ belowPlace k (least 0 (lonely t) k)
-placeLone k t = go (decide (ltb (least 0 (lonely t) k) k)) (least-finds 0 (lonely t) k)
-  where
-    quiet : (j : ℕ) → times j (lonely t) ≡ 0 → among j (lonely t) ≡ false
-    quiet j q = rw q refl
-
-    go : (ltb (least 0 (lonely t) k) k ≡ true) ⊎ (ltb (least 0 (lonely t) k) k ≡ false) → Least 0 (lonely t) k (least 0 (lonely t) k)
-        → checkLone k t .fault ≡ belowPlace k (least 0 (lonely t) k)
-    go (inl d) L = rw d (lowest-first (λ q. among q (lonely t)) 0 k (least 0 (lonely t) k) (record {
-      from = zero-le;
-      to = ltb-true (least 0 (lonely t) k) k d;
-      passes = le-leb 1 (times (least 0 (lonely t) k) (lonely t))
-          (⊎-elim (λ z. absurd (omega (arith, z, ltb-true (least 0 (lonely t) k) k d))) (λ z. z .1) (L .some));
-      none = λ j a b. quiet j (L .none j a b);
-    }))
-    go (inr d) L = rw d (nowhere-first (λ q. among q (lonely t)) 0 k
-        (λ j a b. quiet j (L .none j a (omega (arith, ltb-false (least 0 (lonely t) k) k d)))))
 
 -- ---- where 18 passes, each sample stands once, and what was laid is the row of the tree
 

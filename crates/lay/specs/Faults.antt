@@ -1,4 +1,4 @@
--- Checks 18 and 10 of a text (RULES 14), as what a reading keeps tells them.
+-- Check 18 of a text (RULES 14), as what a reading keeps tells it.
 use Prim.Native.Nat.{ℕ}
 use mathlib.Core.Bool.{Bool, cond, not}
 use mathlib.Core.List.{List}
@@ -29,7 +29,3 @@ badMark n marks x = not (eqb (getD marks x 0) (due n x))
 abbrev pub markCheck : ℕ → List ℕ → ℕ → Check
 markCheck n marks large =
     record { number = 18; fault = orAt (first (badMark n marks) (range 0 mostSamples)) (belowPlace sampleBound large) }
-
--- check 10: the lowest opening byte of a pair with one subtree, in a text of so many bytes
-abbrev pub loneCheck : ℕ → ℕ → Check
-loneCheck size lone = record { number = 10; fault = belowPlace size lone }

@@ -11,7 +11,7 @@ use Rattle.trees.specs.Checks.{mostSamples}
 use Rattle.trees.specs.Tables.{tableWords}
 use Rattle.newick.specs.Tree.{Tree, Forest, Stack, depth, Held, frame}
 use Rattle.newick.specs.Tree.Held.{nothing, some}
-use Rattle.newick.specs.Meaning.{samples, samplesIn, lonely, lonelyIn, times}
+use Rattle.newick.specs.Meaning.{samples, samplesIn, times}
 use Rattle.newick.specs.Walk.State.{want, measured}
 use Rattle.newick.specs.Grammar.{mostOpen, sampleBound}
 use Rattle.newick.specs.Bytes.{closingByte}
@@ -21,22 +21,19 @@ use Rattle.scan.specs.declared.numbers.Number.{Number}
 use Rattle.scan.specs.Scanning.{from, Fresh, Marked, Closes, Stuck}
 use Rattle.lay.specs.Laying.{sets, Braid, nodeOf, nextOf, partBy, grow, spread, onceMore, tally, lower, least}
 
--- the topmost node of the last subtree, the next free number, the lowest sample too large for a mark, and the lowest
--- opening
--- byte of a pair with one subtree
+-- the topmost node of the last subtree, the next free number, and the lowest sample too large for a mark
 pub record Kept : Type 0 where
   pub root : ℕ
   pub next : ℕ
   pub large : ℕ
-  pub lone : ℕ
 
 -- how many numbers are kept
 abbrev pub keptWords : ℕ
-keptWords = 4
+keptWords = 3
 
--- what four words keep
+-- what three words keep
 abbrev pub keptIn : List ℕ → Kept
-keptIn w = record { root = getD w 0 0; next = getD w 1 0; large = getD w 2 0; lone = getD w 3 0 }
+keptIn w = record { root = getD w 0 0; next = getD w 1 0; large = getD w 2 0 }
 
 -- the sizes of what is lent
 pub record Lent (kept row marks : List ℕ) : Type 0 where
@@ -61,7 +58,6 @@ pub record Lays (t : Tree) (c : Kept) (row marks : List ℕ) (g : Kept) (row′ 
   pub root : g .root ≡ grow t (c .next) .root
   pub next : g .next ≡ grow t (c .next) .next
   pub large : g .large ≡ least mostSamples (samples t) (c .large)
-  pub lone : g .lone ≡ least 0 (lonely t) (c .lone)
   pub small : g .root < sampleBound
   pub most : g .next ≤ tableWords
   pub below : (x : ℕ) → 1 ≤ times x (samples t) → x < sampleBound
@@ -87,7 +83,6 @@ pub record Takes (x : Number) (kept marks : List ℕ) (r : Progress) (kept′ ma
   pub next : keptIn kept′ .next ≡ keptIn kept .next
   pub large : keptIn kept′ .large ≡ cond (ltb (x .value) mostSamples) (keptIn kept .large)
       (lower (keptIn kept .large) (x .value))
-  pub lone : keptIn kept′ .lone ≡ keptIn kept .lone
   pub stands : marks′ ≡ set marks (x .value) (onceMore (getD marks (x .value) 0))
 
 -- a comma in a pair that has the node v, or 0 for none; after it the node is r
@@ -96,43 +91,41 @@ pub record Parts (v : ℕ) (kept row : List ℕ) (r : ℕ) (kept′ row′ : Lis
   pub node : r ≡ nodeOf v (keptIn kept .next)
   pub next : keptIn kept′ .next ≡ nextOf v (keptIn kept .next)
   pub large : keptIn kept′ .large ≡ keptIn kept .large
-  pub lone : keptIn kept′ .lone ≡ keptIn kept .lone
   pub links : row′ ≡ set row (keptIn kept .root + 1) (nodeOf v (keptIn kept .next))
   pub small : r ≤ tableWords
   pub most : keptIn kept′ .next ≤ tableWords
 
--- the closing bracket of a pair opened at a that has the node v, or 0 for none
-pub record Shuts (a v : ℕ) (kept row kept′ row′ : List ℕ) : Type 0 where
+-- the closing bracket of a pair that has the node v, or 0 for none, as a pair with one subtree
+pub record Shuts (v : ℕ) (kept row kept′ row′ : List ℕ) : Type 0 where
   pub words : length kept′ ≡ keptWords
   pub root : keptIn kept′ .root ≡ cond (eqb v 0) (keptIn kept .root) v
   pub next : keptIn kept′ .next ≡ keptIn kept .next
   pub large : keptIn kept′ .large ≡ keptIn kept .large
-  pub lone : keptIn kept′ .lone ≡ cond (eqb v 0) (lower (keptIn kept .lone) a) (keptIn kept .lone)
   pub links : row′ ≡ cond (eqb v 0) row (set row (keptIn kept .root + 1) v)
   pub small : keptIn kept′ .root < sampleBound
 
 -- a closing bracket at e, with what follows it up to f
-pub record ClosedTo (l : List ℕ) (a e v : ℕ) (kept row : List ℕ) (f : ℕ) (kept′ row′ : List ℕ) : Type 0 where
+pub record ClosedTo (l : List ℕ) (e v : ℕ) (kept row : List ℕ) (f : ℕ) (kept′ row′ : List ℕ) : Type 0 where
   pub bracket : getD l e 0 ≡ closingByte
   pub marked : Marked l (e + 1) f
-  pub shuts : Shuts a v kept row kept′ row′
+  pub shuts : Shuts v kept row kept′ row′
 
 -- it stands there; or another byte does, or what follows it stops
-abbrev pub Closed : List ℕ → ℕ → ℕ → ℕ → List ℕ → List ℕ → Progress → List ℕ → List ℕ → Type 0
-Closed l a e v kept row (Reached f) kept′ row′ = ClosedTo l a e v kept row f kept′ row′
-Closed l a e v kept row (Stopped q) kept′ row′ =
+abbrev pub Closed : List ℕ → ℕ → ℕ → List ℕ → List ℕ → Progress → List ℕ → List ℕ → Type 0
+Closed l e v kept row (Reached f) kept′ row′ = ClosedTo l e v kept row f kept′ row′
+Closed l e v kept row (Stopped q) kept′ row′ =
     ((q ≡ e) × (getD l e 0 ≡ closingByte → ⊥)) ⊎ ((getD l e 0 ≡ closingByte) × Closes l (e + 1) (Stopped q))
 
 -- ---- in a pair
 
--- in the bracket opened at a, behind the bracket or a comma, at j
-pub record Inside (l : List ℕ) (p d a j : ℕ) : Type 0 where
+-- in an open bracket, behind the bracket or a comma, at j
+pub record Inside (l : List ℕ) (p d j : ℕ) : Type 0 where
   pub after : p < j
   pub within : j ≤ length l
   pub held : Held
-  pub goes : (k : Stack) → depth k + d ≡ mostOpen → from l p (want k) ≡ from l j (want (frame k a held))
+  pub goes : (k : Stack) → depth k + d ≡ mostOpen → from l p (want k) ≡ from l j (want (frame k held))
 
--- what the subtrees before a comma have laid, their samples, and their pairs with one subtree
+-- what the subtrees before a comma have laid, and their samples
 abbrev pub spreadHeld : Held → ℕ → Braid
 spreadHeld nothing k = record { next = k; node = 0; root = 0; links = [] }
 spreadHeld (some f) k = partBy (spread f k)
@@ -141,10 +134,6 @@ abbrev pub samplesHeld : Held → List ℕ
 samplesHeld nothing = []
 samplesHeld (some f) = samplesIn f
 
-abbrev pub lonelyHeld : Held → List ℕ
-lonelyHeld nothing = []
-lonelyHeld (some f) = lonelyIn f
-
 -- what is laid behind an opening bracket or a comma; v is the pair's node, or 0 while it has none
 pub record Along (h : Held) (c : Kept) (row₀ marks₀ : List ℕ) (v : ℕ) (d : Kept) (row marks : List ℕ) : Type 0 where
   pub links : row ≡ sets (spreadHeld h (c .next) .links) row₀
@@ -152,7 +141,6 @@ pub record Along (h : Held) (c : Kept) (row₀ marks₀ : List ℕ) (v : ℕ) (d
   pub node : v ≡ spreadHeld h (c .next) .node
   pub next : d .next ≡ spreadHeld h (c .next) .next
   pub large : d .large ≡ least mostSamples (samplesHeld h) (c .large)
-  pub lone : d .lone ≡ least 0 (lonelyHeld h) (c .lone)
   pub small : v ≤ tableWords
   pub most : d .next ≤ tableWords
   pub low : 1 ≤ d .next
@@ -166,15 +154,14 @@ pub record After (f : Forest) (c : Kept) (row₀ marks₀ : List ℕ) (v : ℕ) 
   pub root : g .root ≡ spread f (c .next) .root
   pub next : g .next ≡ spread f (c .next) .next
   pub large : g .large ≡ least mostSamples (samplesIn f) (c .large)
-  pub lone : g .lone ≡ least 0 (lonelyIn f) (c .lone)
   pub small : g .root < sampleBound
   pub most : g .next ≤ tableWords
   pub below : (x : ℕ) → 1 ≤ times x (samplesIn f) → x < sampleBound
 
 -- the loop over the subtrees of a pair: where it stands in the text, and what it has laid
-pub record Paired (l : List ℕ) (p d a : ℕ) (kept₀ row₀ marks₀ : List ℕ) (j v : ℕ)
+pub record Paired (l : List ℕ) (p d : ℕ) (kept₀ row₀ marks₀ : List ℕ) (j v : ℕ)
     (kept row marks : List ℕ) : Type 0 where
   pub some : 0 < d
-  pub inside : Inside l p d a j
+  pub inside : Inside l p d j
   pub along : Along (inside .held) (keptIn kept₀) row₀ marks₀ v (keptIn kept) row marks
   pub lent : Lent kept row marks

@@ -2,13 +2,13 @@
 use Prim.Native.Nat.{ℕ, zero, suc, _+_, _-_, _≤_, _<_}
 use mathlib.Core.Path.{_≡_, refl, sym, ap, _∙_}
 use mathlib.Core.Logic.{_⊎_, inl, inr, ⊎-elim}
-use mathlib.Core.List.{List, [], _∷_, _++_, append-nil}
-use mathlib.Core.Bool.{Bool, true, false, cond}
+use mathlib.Core.List.{List, [], _∷_, _++_}
+use mathlib.Core.Bool.{Bool, true, false}
 use native.Mathlib.Numerals.{add-one}
 use native.Mathlib.Omega.{arith}
 use lib.Dec.{eqb}
 use lib.ListN.{length, set}
-use borrow.Author.Tests.{eqb-true, ne-eqb, le-ltb}
+use borrow.Author.Tests.{eqb-true}
 use Rattle.trees.specs.BoolLaws.{decide}
 use Rattle.trees.specs.Checks.{mostSamples}
 use Rattle.trees.specs.Lists.{weigh}
@@ -16,17 +16,15 @@ use Rattle.trees.specs.ListLaws.{weigh-append}
 use Rattle.trees.specs.Tables.{tableWords}
 use Rattle.newick.specs.Tree.{Mark, Tree, Forest, Held, hold}
 use Rattle.newick.specs.Tree.Tree.{leaf, pair}
-use Rattle.newick.specs.Tree.Forest.{only, more}
 use Rattle.newick.specs.Tree.Held.{nothing, some}
-use Rattle.newick.specs.Meaning.{samples, samplesIn, lone, lonely, lonelyIn, times}
+use Rattle.newick.specs.Meaning.{samples, samplesIn, times}
 use Rattle.scan.specs.declared.Progress.{Progress}
 use Rattle.scan.specs.declared.numbers.Number.{Number}
 use Rattle.newick.specs.Grammar.{sampleBound}
-use Rattle.lay.specs.Laying.{Link, link, sets, Braid, nodeOf, thenBy, grow, spread, tally, lower, least}
-use Rattle.lay.specs.LayLaws.{spread-few}
+use Rattle.lay.specs.Laying.{Link, link, sets, Braid, nodeOf, thenBy, grow, spread, tally, least}
 use Rattle.lay.specs.LaidRow.{length-links}
 use Rattle.lay.specs.TallyLaws.{sets-append, tally-append, least-append, length-tally}
-use Rattle.lay.specs.Keeping.{Kept, keptWords, keptIn, Lent, Lays, Takes, Parts, Shuts, spreadHeld, samplesHeld, lonelyHeld, Along}
+use Rattle.lay.specs.Keeping.{Kept, keptWords, keptIn, Lent, Lays, Takes, Parts, Shuts, spreadHeld, samplesHeld, Along}
 use Rattle.lay.specs.Keeping.{After}
 
 -- ---- one subtree more
@@ -41,11 +39,6 @@ unfolding samples
 samples-hold nothing t = refl
 samples-hold (some f) t = refl
 
-lonely-hold : (h : Held) (t : Tree) → lonelyIn (hold h t) ≡ lonelyHeld h ++ lonely t
-unfolding lonely
-lonely-hold nothing t = refl
-lonely-hold (some f) t = refl
-
 pub along-start : (c : Kept) (row marks : List ℕ) → 1 ≤ c .next → c .next ≤ tableWords → Along nothing c row marks 0 c row marks
 unfolding sets tally least weigh
 along-start c row marks h k = record {
@@ -54,7 +47,6 @@ along-start c row marks h k = record {
   node = refl;
   next = refl;
   large = refl;
-  lone = refl;
   small = omega arith;
   most = k;
   low = h;
@@ -77,8 +69,6 @@ along-sub h t c row₀ marks₀ v d g row marks row′ marks′ A L =
       large =
           L .large ∙ ap (least mostSamples (samples t)) (A .large) ∙ sym (least-append mostSamples (samplesHeld h) (samples t) (c .large))
           ∙ ap (λ (xs : List ℕ). least mostSamples xs (c .large)) (sym (samples-hold h t));
-      lone = L .lone ∙ ap (least 0 (lonely t)) (A .lone) ∙ sym (least-append 0 (lonelyHeld h) (lonely t) (c .lone))
-          ∙ ap (λ (xs : List ℕ). least 0 xs (c .lone)) (sym (lonely-hold h t));
       small = L .small;
       most = L .most;
       below = λ x i. either-of x (times x (samplesHeld h)) (times x (samples t)) (A .below x) (L .below x)
@@ -96,19 +86,6 @@ unfolding sets
 last-link ls c p row₀ row e =
     ap (λ (z : List ℕ). set z (c + 1) p) e ∙ ap (λ (i : ℕ). set (sets ls row₀) i p) (add-one c) ∙ sym (sets-append ls (link c p ∷ []) row₀)
 
--- a pair has no node exactly if it holds one subtree
-lone-node : (f : Forest) (k q : ℕ) → 1 ≤ k → lone q f ≡ cond (eqb (spread f k .node) 0) (q ∷ []) []
-unfolding lone grow
-lone-node (only t) k q h = refl
-lone-node (more f t) k q h = let b = spread f k in rw (some-node (b .node) (b .next) (omega (arith, spread-few f k .0))) refl
-  where
-    some-node : (node next : ℕ) → 1 ≤ next → eqb (nodeOf node next) 0 ≡ false
-    some-node node next i = go (decide (eqb node 0))
-      where
-        go : (eqb node 0 ≡ true) ⊎ (eqb node 0 ≡ false) → eqb (nodeOf node next) 0 ≡ false
-        go (inl e) = rw e (ne-eqb next 0 (λ z. omega arith))
-        go (inr e) = rw e e
-
 module _ (f : Forest) (c : Kept) (row₀ marks₀ : List ℕ) (v : ℕ) (kept row marks : List ℕ)
     (A : After f c row₀ marks₀ v (keptIn kept) row marks) where
   abbrev b : Braid
@@ -124,30 +101,27 @@ module _ (f : Forest) (c : Kept) (row₀ marks₀ : List ℕ) (v : ℕ) (kept ro
         node = P .node ∙ w;
         next = P .next ∙ rw (A .node, A .next) refl;
         large = P .large ∙ A .large;
-        lone = P .lone ∙ A .lone;
         small = P .small;
         most = P .most;
         low = low;
         below = A .below;
       }
 
-  pub after-shut : (a : ℕ) (μ : Mark) (kept′ row′ : List ℕ) → 1 ≤ c .next → Shuts a v kept row kept′ row′
-      → Lays (pair a f μ) c row₀ marks₀ (keptIn kept′) row′ marks
-  unfolding grow samples lonely least
-  after-shut a μ kept′ row′ h S = go (decide (eqb (b .node) 0))
+  pub after-shut : (μ : Mark) (kept′ row′ : List ℕ) → Shuts v kept row kept′ row′
+      → Lays (pair f μ) c row₀ marks₀ (keptIn kept′) row′ marks
+  unfolding grow samples
+  after-shut μ kept′ row′ S = go (decide (eqb (b .node) 0))
     where
       nd : (x : Bool) → eqb (b .node) 0 ≡ x → eqb v 0 ≡ x
       nd x e = ap (λ (i : ℕ). eqb i 0) (A .node) ∙ e
 
-      go : (eqb (b .node) 0 ≡ true) ⊎ (eqb (b .node) 0 ≡ false) → Lays (pair a f μ) c row₀ marks₀ (keptIn kept′) row′ marks
+      go : (eqb (b .node) 0 ≡ true) ⊎ (eqb (b .node) 0 ≡ false) → Lays (pair f μ) c row₀ marks₀ (keptIn kept′) row′ marks
       go (inl e) = let z = nd true e in record {
         links = S .links ∙ rw (z, e) (A .links);
         stands = A .stands;
         root = S .root ∙ rw (z, e) (A .root);
         next = S .next ∙ A .next;
         large = S .large ∙ A .large;
-        lone = S .lone ∙ rw z (ap (λ (y : ℕ). lower y a) (A .lone)
-            ∙ sym (least-append 0 (lonelyIn f) (lone a f) (c .lone) ∙ rw (lone-node f (c .next) a h, e, le-ltb a 0 (omega arith)) refl));
         small = S .small;
         most = omega (arith, S .next, A .most);
         below = A .below;
@@ -159,8 +133,6 @@ module _ (f : Forest) (c : Kept) (row₀ marks₀ : List ℕ) (v : ℕ) (kept ro
         root = S .root ∙ rw (z, e) (A .node);
         next = S .next ∙ A .next;
         large = S .large ∙ A .large;
-        lone = S .lone ∙ rw z (A .lone
-            ∙ rw (lone-node f (c .next) a h, e) (ap (λ (qs : List ℕ). least 0 qs (c .lone)) (sym (append-nil (lonelyIn f)))));
         small = S .small;
         most = omega (arith, S .next, A .most);
         below = A .below;
@@ -171,14 +143,13 @@ module _ (f : Forest) (c : Kept) (row₀ marks₀ : List ℕ) (v : ℕ) (kept ro
 pub lays-leaf : (x : Number) (kept marks : List ℕ) (r : Progress) (kept′ marks′ row : List ℕ) → Takes x kept marks r kept′ marks′
     → x .value < sampleBound → keptIn kept .next ≤ tableWords
     → Lays (leaf (x .value)) (keptIn kept) row marks (keptIn kept′) row marks′
-unfolding grow samples lonely sets tally least weigh
+unfolding grow samples sets tally least weigh
 lays-leaf x kept marks r kept′ marks′ row T h k = record {
   links = refl;
   stands = T .stands;
   root = T .root;
   next = T .next;
   large = T .large;
-  lone = T .lone;
   small = omega (arith, T .root, h);
   most = omega (arith, T .next);
   below =

@@ -155,7 +155,7 @@ module _ (r : List ℕ) where
         → Reach (grow t k .root) x
     grow-reach (leaf y) k s f h x n =
         ⊎-elim (λ e. rw (eqb-true x y e) (reach-self y)) (λ e. absurd (omega (arith, rw e at n))) (decide (eqb x y))
-    grow-reach (pair q f μ) k s u h x n = reach-shut (spread f k) h (spread-reach f k s u (shut-sat (spread f k) h)) x n
+    grow-reach (pair f μ) k s u h x n = reach-shut (spread f k) h (spread-reach f k s u (shut-sat (spread f k) h)) x n
 
     pub spread-reach : (f : Forest) (k : ℕ) → 1 ≤ k → spread f k .next < tableWords → Sat (spread f k .links) → ReachIn (spread f k)
     spread-reach (only t) k s u h = reach-first (grow t k) (λ x n. grow-reach t k s u h x n)
@@ -360,8 +360,8 @@ module _ (n : ℕ) (r : List ℕ) (ok : Valid n r) where
         → ((s : ℕ) → s < n → Above r (grow t k .root) s → 1 ≤ times s (samples t)) → Told (groupsOf n t) (λ x. nodeIn x (grow t k))
     grow-tells (leaf y) k i low u st h =
         tell-leaf y k (grow (leaf y) k) low (grow-fine (leaf y) k i u) (grow-reach r (leaf y) k i u (st .sat)) refl st h
-    grow-tells (pair q f μ) k i low u st h =
-        tell-shut (samplesIn f) (groupsIn n f) (spread f k) k low (grow-fine (pair q f μ) k i u) (grow-reach r (pair q f μ) k i u (st .sat))
+    grow-tells (pair f μ) k i low u st h =
+        tell-shut (samplesIn f) (groupsIn n f) (spread f k) k low (grow-fine (pair f μ) k i u) (grow-reach r (pair f μ) k i u (st .sat))
         (spread-tells f k i low u (shut-sat r (spread f k) (st .sat))) st h
 
     pub spread-tells : (f : Forest) (k : ℕ) → 1 ≤ k → n ≤ k → spread f k .next < tableWords → Sat r (spread f k .links)
@@ -398,7 +398,7 @@ mutual
 
   pub grow-top : (t : Tree) (k : ℕ) → 1 ≤ k → grow t k .next < tableWords → (k ≤ grow t k .root) ⊎ (grow t k .next ≡ k)
   grow-top (leaf y) k i u = inr refl
-  grow-top (pair q f μ) k i u = top-shut k (spread f k) (spread-fine f k i u) (λ e. spread-top f k i u e)
+  grow-top (pair f μ) k i u = top-shut k (spread f k) (spread-fine f k i u) (λ e. spread-top f k i u e)
 
   spread-top : (f : Forest) (k : ℕ) → 1 ≤ k → spread f k .next < tableWords → eqb (spread f k .node) 0 ≡ true
       → (k ≤ spread f k .root) ⊎ (spread f k .next ≡ k)

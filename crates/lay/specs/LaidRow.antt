@@ -13,7 +13,7 @@ use borrow.Author.Tests.{ltb-true, ltb-false, le-leb, lt-leb, eqb-true, eqb-fals
 use Rattle.trees.specs.Lists.{tabulate, zeros, range, filter, weigh, count}
 use Rattle.trees.specs.Groups.{Group, member}
 use Rattle.trees.specs.Rows.{nodes, parent, rootMark, childOf, meets, ends, groups}
-use Rattle.trees.specs.Checks.{rowWords}
+use Rattle.trees.specs.Checks.{rowWords, children}
 use Rattle.trees.specs.Valid.{Valid, In}
 use Rattle.trees.specs.BoolLaws.{decide, true-eq}
 use Rattle.trees.specs.ListLaws.{length-zeros, getD-zeros, range-in, weigh-one, weigh-found, count-two, count-all}
@@ -273,6 +273,10 @@ module _ (n : ℕ) (t : Tree) (least : 2 ≤ n) (most : n ≤ 512) (h : (x : ℕ
       ∙ links-other (g .links) (zeros (rowWords n)) c (omega (arith, rw (le-ltb c m (omega arith)) at (node-once c)))
       ∙ getD-zeros (rowWords n) (suc c)
 
+  -- each node that is laid has two children or more: a pair with one subtree makes none (RULES 14.9)
+  pub laid-two : (v : ℕ) → n ≤ v → v < nodes r → 2 ≤ children r v
+  laid-two v i j = rw nodes-laid (pair-children v i (omega (arith, nodes-laid)))
+
   pub laid-valid : Valid n r
   laid-valid = record {
     least = least;
@@ -288,7 +292,7 @@ module _ (n : ℕ) (t : Tree) (least : 2 ≤ n) (most : n ≤ 512) (h : (x : ℕ
         (eq-eqb (parent r (g .root)) rootMark parent-root) (λ x i j e. root-only x j (eqb-true (parent r x) rootMark e)));
     filler = λ w i j. filled w (omega (arith, nodes-laid)) j;
     reach = λ v i. rw nodes-laid (reaches v (omega (arith, nodes-laid)));
-    two = λ v i j. rw nodes-laid (pair-children v i (omega (arith, nodes-laid)));
+    child = λ v i j. omega (arith, laid-two v i j);
   }
 
   pub laid-groups : (x : Group) → member x (groups n r) ≡ member x (groupsOf n t)

@@ -190,7 +190,7 @@ mutual
 
   pub grow-few : (t : Tree) (k : ℕ) → (k ≤ grow t k .next) × (grow t k .next + 1 ≤ k + length (samples t))
   grow-few (leaf x) k = (omega arith, omega arith)
-  grow-few (pair q f μ) k = spread-few f k
+  grow-few (pair f μ) k = spread-few f k
 
   pub spread-few : (f : Forest) (k : ℕ) → (k ≤ spread f k .next) × (spread f k .next + 1 ≤ k + length (samplesIn f))
   spread-few (only t) k = grow-few t k
@@ -214,7 +214,7 @@ mutual
     where
       nothing : (l : Link) → List·Memᴰ l [] → (k ≤ l .up) × (l .up < k)
       nothing l m = absurd (List·Memᴰ·not-nil m)
-  grow-fine (pair q f μ) k s h = fine-shut (samplesIn f) k (spread f k) (spread-fine f k s h)
+  grow-fine (pair f μ) k s h = fine-shut (samplesIn f) k (spread f k) (spread-fine f k s h)
 
   pub spread-fine : (f : Forest) (k : ℕ) → 1 ≤ k → spread f k .next < tableWords → FineIn (samplesIn f) k (spread f k)
   spread-fine (only t) k s h = fine-first (samples t) k (grow t k) (grow-fine t k s h)

@@ -76,7 +76,7 @@ shutBy b = record {
 unfoldable mutual
   pub grow : Tree → ℕ → Strand
   grow (leaf x) k = record { next = k; root = x; links = [] }
-  grow (pair q f μ) k = shutBy (spread f k)
+  grow (pair f μ) k = shutBy (spread f k)
 
   pub spread : Forest → ℕ → Braid
   spread (only t) k = firstOf (grow t k)

@@ -2,7 +2,6 @@
 use Prim.Native.Nat.{ℕ}
 use mathlib.Core.Path.{_≡_, sym, ap, subst, _∙_}
 use mathlib.Core.List.{List}
-use lib.ListN.{length}
 use Rattle.trees.specs.Groups.{Group, member}
 use Rattle.trees.specs.Rows.{groups}
 use Rattle.trees.specs.Checks.{accepted}
@@ -39,13 +38,13 @@ module _ (n : ℕ) (l out : List ℕ) (e : reading n l out .verdict ≡ accepted
       one-tree u q = sym (ap treeIn (complete q)) ∙ ap treeIn (complete s)
 
   valid : Valid n laid
-  valid = laid-valid n t (sized .least) (sized .most) (readable .once)
+  valid = laid-valid n t (sized .least) (sized .most) (readable)
 
   written-words : reading n l out .words ≡ renumbered n laid
   unfolding reading
-  written-words = outcome-accepted (readChecks n (parsed l) (length l) out) out (rowIn n (treeIn (parsed l))) e
+  written-words = outcome-accepted (readChecks n (parsed l) out) out (rowIn n (treeIn (parsed l))) e
       ∙ ap (λ (o : Parse). rowIn n (treeIn o)) (complete s)
-      ∙ row-in n laid t (λ g. sym (laid-groups n t (sized .least) (sized .most) (readable .once) g))
+      ∙ row-in n laid t (λ g. sym (laid-groups n t (sized .least) (sized .most) (readable) g))
 
   -- the row is in standard numbering (RULES 14.9)
   pub reading-standard : Standard n (reading n l out .words)
@@ -54,4 +53,4 @@ module _ (n : ℕ) (l out : List ℕ) (e : reading n l out .verdict ≡ accepted
   -- it has exactly the groups of the text's samples and pairs (RULES 14.9)
   pub reading-groups : (x : Group) → member x (groups n (reading n l out .words)) ≡ member x (groupsOf n t)
   reading-groups x = ap (λ (w : List ℕ). member x (groups n w)) written-words ∙ renumbered-groups n laid valid x
-      ∙ laid-groups n t (sized .least) (sized .most) (readable .once) x
+      ∙ laid-groups n t (sized .least) (sized .most) (readable) x

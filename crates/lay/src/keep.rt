@@ -18,8 +18,8 @@ use crate::tables::mark;
 use scan::Number;
 use scan::Progress;
 
-// Four numbers are kept.
-pub const KEPT: usize = 4;
+// Three numbers are kept.
+pub const KEPT: usize = 3;
 
 pub type Kept = [usize; KEPT];
 
@@ -31,9 +31,6 @@ pub const NEXT: usize = 1;
 
 // The lowest sample that is too large to have a mark.
 pub const LARGE: usize = 2;
-
-// The lowest opening byte of a pair with one subtree.
-pub const LONE: usize = 3;
 
 // What is kept while no sample is too large: more than any sample of five digits.
 pub const NOTHING_LARGE: usize = 100000;
@@ -108,14 +105,14 @@ pub(crate) fn comma(node: usize, kept: &mut Kept, row: &mut Row) -> usize
     v
 }
 
-// A closing bracket of the pair opened at a: the subtree before it is linked to the pair's node, if it has one.
-pub(crate) fn shut(a: usize, node: usize, kept: &mut Kept, row: &mut Row)
+// A closing bracket: the subtree before it is linked to the pair's node. A pair with one subtree has none, and adds
+// nothing to the row (RULES 14.9).
+pub(crate) fn shut(node: usize, kept: &mut Kept, row: &mut Row)
     requires { ⌜ (length (now kept) ≡ keptWords) × (length (now row) ≡ tableWords) × (node ≤ tableWords)
         × (keptIn (now kept) .root < sampleBound) ⌝ }
-    ensures { λ _. ⌜ Shuts a node (now (kept .entry)) (now (row .entry)) (now (kept .exit)) (now (row .exit)) ⌝ }
+    ensures { λ _. ⌜ Shuts node (now (kept .entry)) (now (row .entry)) (now (kept .exit)) (now (row .exit)) ⌝ }
 {
     if node == 0 {
-        kept[LONE] = low(kept[LONE], a);
         return;
     }
     link(kept[ROOT], node, row);

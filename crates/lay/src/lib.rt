@@ -6,7 +6,6 @@ mod tables;
 pub use keep::KEPT;
 pub use keep::Kept;
 pub use keep::LARGE;
-pub use keep::LONE;
 pub use keep::NEXT;
 pub use keep::NOTHING_LARGE;
 pub use keep::ROOT;

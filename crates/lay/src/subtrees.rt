@@ -17,11 +17,11 @@ use scan::closes;
 use scan::look;
 use scan::starts;
 
-// The closing bracket at e of the pair opened at a, and what follows it.
-fn close(s: &[u8], a: usize, e: usize, node: usize, kept: &mut Kept, row: &mut Row) -> Progress
+// The closing bracket of a pair at e, and what follows it.
+fn close(s: &[u8], e: usize, node: usize, kept: &mut Kept, row: &mut Row) -> Progress
     requires { ⌜ (length (now kept) ≡ keptWords) × (length (now row) ≡ tableWords) × (node ≤ tableWords)
         × (keptIn (now kept) .root < sampleBound) ⌝ }
-    ensures { λ r. ⌜ Closed (now (s .entry)) a e node (now (kept .entry)) (now (row .entry)) r (now (kept .exit))
+    ensures { λ r. ⌜ Closed (now (s .entry)) e node (now (kept .entry)) (now (row .entry)) r (now (kept .exit))
         (now (row .exit)) ⌝ }
 {
     if look(s, e) != b')' {
@@ -31,7 +31,7 @@ fn close(s: &[u8], a: usize, e: usize, node: usize, kept: &mut Kept, row: &mut R
     let Progress::Reached(_) = p else {
         return p;
     };
-    shut(a, node, kept, row);
+    shut(node, kept, row);
     p
 }
 
@@ -65,7 +65,7 @@ pub fn subtree(
             return p;
         };
         if look(s, e) != b',' {
-            return close(s, a, e, node, kept, row);
+            return close(s, e, node, kept, row);
         }
         node = comma(node, kept, row);
         j = e + 1;

@@ -1,13 +1,13 @@
--- What lines 18 and 10 of reading ask of a tree (RULES 7.5), and what is read (RULES 14.9).
+-- What line 18 of reading asks of a tree (RULES 7.5), and what is read (RULES 14.9).
 use Prim.Native.Nat.{ℕ, _≤_, _<_}
 use mathlib.Core.Path.{_≡_}
-use mathlib.Core.List.{List, []}
+use mathlib.Core.List.{List}
 use mathlib.Core.Bool.{cond}
 use lib.Dec.{ltb}
 use lib.ListN.{length}
 use Rattle.trees.specs.Checks.{fewestSamples, mostSamples, rowWords}
 use Rattle.newick.specs.Tree.{Tree}
-use Rattle.newick.specs.Meaning.{samples, times, lonely}
+use Rattle.newick.specs.Meaning.{samples, times}
 
 -- n is in range, and the output has 2n words
 pub record Sized (n : ℕ) (out : List ℕ) : Type 0 where
@@ -24,12 +24,7 @@ pub record LowestWith (P : ℕ → Type 0) (p : ℕ) : Type 0 where
 abbrev pub Stands : ℕ → Tree → ℕ → Type 0
 Stands n t x = times x (samples t) ≡ cond (ltb x n) 1 0
 
--- a pair that is opened at q holds one subtree
-abbrev pub Single : Tree → ℕ → Type 0
-Single t q = 1 ≤ times q (lonely t)
-
--- A tree that is read over n samples: each sample below n stands once and no other, and every pair holds two subtrees
--- or more.
-pub record Readable (n : ℕ) (t : Tree) : Type 0 where
-  pub once : (x : ℕ) → Stands n t x
-  pub paired : (q : ℕ) → Single t q → ⊥
+-- A tree that is read over n samples: each sample below n stands once, and no other number does. How many subtrees a pair
+-- holds is not asked.
+abbrev pub Readable : ℕ → Tree → Type 0
+Readable n t = (x : ℕ) → Stands n t x

@@ -1,6 +1,6 @@
 -- Which texts are of the form, rule by rule (RULES 14.2 to 14.6), and the tree that each means (RULES 14.8). There is
 -- no reading in it.
-use Prim.Native.Nat.{ℕ, suc, _+_, _-_, _≤_}
+use Prim.Native.Nat.{ℕ, suc, _-_, _≤_}
 use mathlib.Core.Path.{_≡_}
 use mathlib.Core.Bool.{Bool, true}
 use mathlib.Core.List.{List, [], _∷_, _++_}
@@ -54,20 +54,20 @@ pub data Length : List ℕ → Type 0 where
   lengthless : (a : List ℕ) → Blanks a → Length a
   lengthed : (a b c l : List ℕ) → Blanks a → Blanks b → Number l → Blanks c → Length (a ++ (colonByte ∷ (b ++ (l ++ c))))
 
--- The bytes of a subtree of which the first is at place p, with at most d brackets open at once, and its tree; those of
--- the subtrees of a pair, with a comma between each two (RULES 14.2).
+-- The bytes of a subtree, with at most d brackets open at once, and its tree; those of the subtrees of a pair, with a
+-- comma between each two (RULES 14.2).
 mutual
-  pub data Subtree : ℕ → ℕ → List ℕ → Tree → Type 0 where
-    a-sample : (d p : ℕ) (w a l m : List ℕ) (x : ℕ) → w ≡ a ++ (l ++ m) → Blanks a → Sample l x → Length m
-        → Subtree d p w (leaf x)
-    a-pair : (d p q : ℕ) (w a l s m : List ℕ) (f : Forest) (μ : Mark)
-        → w ≡ a ++ (openingByte ∷ (l ++ (closingByte ∷ (s ++ m)))) → q ≡ p + length a
-        → Blanks a → Subtrees d (suc q) l f → Support s μ → Length m → Subtree (suc d) p w (pair q f μ)
+  pub data Subtree : ℕ → List ℕ → Tree → Type 0 where
+    a-sample : (d : ℕ) (w a l m : List ℕ) (x : ℕ) → w ≡ a ++ (l ++ m) → Blanks a → Sample l x → Length m
+        → Subtree d w (leaf x)
+    a-pair : (d : ℕ) (w a l s m : List ℕ) (f : Forest) (μ : Mark)
+        → w ≡ a ++ (openingByte ∷ (l ++ (closingByte ∷ (s ++ m))))
+        → Blanks a → Subtrees d l f → Support s μ → Length m → Subtree (suc d) w (pair f μ)
 
-  pub data Subtrees : ℕ → ℕ → List ℕ → Forest → Type 0 where
-    one : (d p : ℕ) (l : List ℕ) (t : Tree) → Subtree d p l t → Subtrees d p l (only t)
-    parted : (d p : ℕ) (w l m : List ℕ) (f : Forest) (t : Tree) → w ≡ l ++ (commaByte ∷ m)
-        → Subtrees d p l f → Subtree d (suc (p + length l)) m t → Subtrees d p w (more f t)
+  pub data Subtrees : ℕ → List ℕ → Forest → Type 0 where
+    one : (d : ℕ) (l : List ℕ) (t : Tree) → Subtree d l t → Subtrees d l (only t)
+    parted : (d : ℕ) (w l m : List ℕ) (f : Forest) (t : Tree) → w ≡ l ++ (commaByte ∷ m)
+        → Subtrees d l f → Subtree d m t → Subtrees d w (more f t)
 
 -- how many brackets are open at once, at most (RULES 14.6)
 abbrev pub mostOpen : ℕ
@@ -75,7 +75,7 @@ mostOpen = 511
 
 -- A text of the form, and its tree: one subtree and a semicolon, with blanks behind it (RULES 14.2).
 pub data Text : List ℕ → Tree → Type 0 where
-  a-text : (l a : List ℕ) (t : Tree) → Subtree mostOpen 0 l t → Blanks a → Text (l ++ (semicolonByte ∷ a)) t
+  a-text : (l a : List ℕ) (t : Tree) → Subtree mostOpen l t → Blanks a → Text (l ++ (semicolonByte ∷ a)) t
 
 -- a text of the form, whatever its tree is
 abbrev pub OfForm : List ℕ → Type 0

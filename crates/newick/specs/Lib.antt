@@ -24,4 +24,5 @@ pub mod RoundTrip
 pub mod Faults
 pub mod FaultLaws
 pub mod ReadCallLaws
+pub mod TrimmedLaws
 pub mod WriteLaws

@@ -1,11 +1,11 @@
--- What a text means over n samples (RULES 14.8): a group for each sample and each pair; what lines 18 and 10 ask of it.
-use Prim.Native.Nat.{ℕ, suc, max}
+-- What a text means over n samples (RULES 14.8): a group for each sample and each pair; what line 18 asks of it.
+use Prim.Native.Nat.{ℕ, suc, _+_, max}
 use mathlib.Core.List.{List, [], _∷_, _++_}
 use mathlib.Core.Bool.{Bool, cond, not}
 use lib.Dec.{eqb, ltb, leb}
 use Rattle.trees.specs.Lists.{tabulate, count}
 use Rattle.trees.specs.Groups.{Group}
-use Rattle.newick.specs.Tree.{Tree, Forest}
+use Rattle.newick.specs.Tree.{Mark, Tree, Forest}
 use Rattle.newick.specs.Tree.Tree.{leaf, pair}
 use Rattle.newick.specs.Tree.Forest.{only, more}
 
@@ -13,7 +13,7 @@ use Rattle.newick.specs.Tree.Forest.{only, more}
 unfoldable mutual
   pub samples : Tree → List ℕ
   samples (leaf x) = x ∷ []
-  samples (pair q f μ) = samplesIn f
+  samples (pair f μ) = samplesIn f
 
   pub samplesIn : Forest → List ℕ
   samplesIn (only t) = samples t
@@ -35,11 +35,40 @@ groupOf n xs = tabulate n (λ s. among s xs) 0
 unfoldable mutual
   pub groupsOf : ℕ → Tree → List Group
   groupsOf n (leaf x) = groupOf n (x ∷ []) ∷ []
-  groupsOf n (pair q f μ) = groupOf n (samplesIn f) ∷ groupsIn n f
+  groupsOf n (pair f μ) = groupOf n (samplesIn f) ∷ groupsIn n f
 
   pub groupsIn : ℕ → Forest → List Group
   groupsIn n (only t) = groupsOf n t
   groupsIn n (more f t) = groupsIn n f ++ groupsOf n t
+
+-- brackets around subtrees; around one alone none are needed (RULES 14.9)
+abbrev pub around : Forest → Mark → Tree
+around (only t) μ = t
+around (more f t) μ = pair (more f t) μ
+
+-- a tree with its single pairs, those that hold one subtree, taken out
+unfoldable mutual
+  pub trimmed : Tree → Tree
+  trimmed (leaf x) = leaf x
+  trimmed (pair f μ) = around (trimmedIn f) μ
+
+  pub trimmedIn : Forest → Forest
+  trimmedIn (only t) = only (trimmed t)
+  trimmedIn (more f t) = more (trimmedIn f) (trimmed t)
+
+-- how many single pairs a tree has
+abbrev pub holdsOne : Forest → ℕ
+holdsOne (only t) = 1
+holdsOne (more f t) = 0
+
+unfoldable mutual
+  pub singles : Tree → ℕ
+  singles (leaf x) = 0
+  singles (pair f μ) = holdsOne f + singlesIn f
+
+  pub singlesIn : Forest → ℕ
+  singlesIn (only t) = singles t
+  singlesIn (more f t) = singlesIn f + singles t
 
 -- one more than the largest of a list
 unfoldable pub above : List ℕ → ℕ
@@ -49,18 +78,3 @@ above (x ∷ xs) = max (suc x) (above xs)
 -- whether a number is amiss: a sample that does not stand just once, or another that stands (line 18 of RULES 7.5)
 abbrev pub amiss : ℕ → List ℕ → ℕ → Bool
 amiss n xs x = not (eqb (times x xs) (cond (ltb x n) 1 0))
-
--- the opening byte of a pair, if it holds one subtree
-unfoldable pub lone : ℕ → Forest → List ℕ
-lone q (only t) = q ∷ []
-lone q (more f t) = []
-
--- the opening bytes of the pairs that hold one subtree
-unfoldable mutual
-  pub lonely : Tree → List ℕ
-  lonely (leaf x) = []
-  lonely (pair q f μ) = lonelyIn f ++ lone q f
-
-  pub lonelyIn : Forest → List ℕ
-  lonelyIn (only t) = lonely t
-  lonelyIn (more f t) = lonelyIn f ++ lonely t

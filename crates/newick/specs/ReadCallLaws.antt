@@ -14,20 +14,20 @@ use Rattle.trees.specs.BoolLaws.{decide}
 use Rattle.trees.specs.ChainLaws.{Passed, passed-chain, chain-passed, accepted-other, Given, here, later, chain-given, given-chain}
 use Rattle.trees.specs.ChainLaws.{Exactly, refused-exactly, numbers, lacks, given-alone, line-passes}
 use Rattle.trees.specs.CheckLaws.{samples-exactly}
-use Rattle.trees.specs.PlacedLaws.{Placed, placed-none, placed-line, placed-at}
+use Rattle.trees.specs.PlacedLaws.{Placed, placed-none, placed-line}
 use Rattle.trees.specs.OutcomeLaws.{outcome-refused}
 use Rattle.newick.specs.Tree.{Tree}
 use Rattle.newick.specs.Grammar.{sampleBound, Text}
 use Rattle.newick.specs.Walk.{Parse, parsed}
 use Rattle.newick.specs.Walk.Parse.{reads, stops}
 use Rattle.newick.specs.Stops.{FirstStop}
-use Rattle.newick.specs.Meaning.{samples, times, among, lonely}
-use Rattle.newick.specs.Faults.{Sized, LowestWith, Stands, Single, Readable}
-use Rattle.newick.specs.ReadCalls.{stopPlace, treeIn, check17, check18, checkLone, textChecks, readChecks, rowIn, reading}
+use Rattle.newick.specs.Meaning.{samples, times}
+use Rattle.newick.specs.Faults.{Sized, LowestWith, Stands, Readable}
+use Rattle.newick.specs.ReadCalls.{stopPlace, treeIn, check17, check18, textChecks, readChecks, rowIn, reading}
 use Rattle.newick.specs.Complete.{complete}
 use Rattle.newick.specs.Sound.{sound}
 use Rattle.newick.specs.StopLaws.{stop-exactly}
-use Rattle.newick.specs.FaultLaws.{amiss-exactly, stands-exactly, samples-small, single-exactly, paired-exactly}
+use Rattle.newick.specs.FaultLaws.{amiss-exactly, stands-exactly, samples-small}
 
 -- ---- what comes of a text
 
@@ -59,25 +59,25 @@ module _ (n : ℕ) (out : List ℕ) where
 
 module _ (n : ℕ) (l out : List ℕ) where
   abbrev checks : List Check
-  checks = readChecks n (parsed l) (length l) out
+  checks = readChecks n (parsed l) out
 
   abbrev tree : Tree
   tree = treeIn (parsed l)
 
   -- the order of its checks (RULES 7.9)
-  pub reading-numbers : numbers (readChecks n (parsed l) (length l) out) ≡ (1 ∷ 3 ∷ 17 ∷ 18 ∷ 10 ∷ [])
+  pub reading-numbers : numbers (readChecks n (parsed l) out) ≡ (1 ∷ 3 ∷ 17 ∷ 18 ∷ [])
   unfolding readChecks textChecks
   reading-numbers = refl
 
   -- DEMAND 1 of reading (RULES D1)
-  pub reading-exactly : (k p : ℕ) → (reading n l out .verdict ≡ refused k p) ↔ Exactly k p (readChecks n (parsed l) (length l) out)
+  pub reading-exactly : (k p : ℕ) → (reading n l out .verdict ≡ refused k p) ↔ Exactly k p (readChecks n (parsed l) out)
   unfolding reading
-  reading-exactly = refused-exactly (readChecks n (parsed l) (length l) out) accepted accepted-other
+  reading-exactly = refused-exactly (readChecks n (parsed l) out) accepted accepted-other
 
   -- and no word of `out` differs then
   pub reading-refused : (k p : ℕ) → reading n l out .verdict ≡ refused k p → reading n l out .words ≡ out
   unfolding reading
-  reading-refused k p e = outcome-refused (readChecks n (parsed l) (length l) out) out (rowIn n (treeIn (parsed l))) k p e
+  reading-refused k p e = outcome-refused (readChecks n (parsed l) out) out (rowIn n (treeIn (parsed l))) k p e
 
   given : (k p : ℕ) → reading n l out .verdict ≡ refused k p → Given k p checks
   unfolding reading
@@ -98,8 +98,7 @@ module _ (n : ℕ) (l out : List ℕ) where
   pub reading-17 : (p : ℕ) → (reading n l out .verdict ≡ refused 17 p) ↔ (Sized n out × FirstStop l p)
   unfolding readChecks textChecks lacks
   reading-17 p = (
-    λ e. let g = given-alone (sizes n out) (check17 (parsed l)) (check18 n tree ∷ checkLone (length l) tree ∷ []) 17 p refl refl
-        (given 17 p e) in
+    λ e. let g = given-alone (sizes n out) (check17 (parsed l)) (check18 n tree ∷ []) 17 p refl refl (given 17 p e) in
         (sized-to n out (g .0), stop-exactly l p .0 (stopped (parsed l) p (g .1))),
     λ h. let s = sized-from n out (h .0) in
         gives 17 p (later (s .0) (later (s .1 .0) (here refl (ap stopPlace (stop-exactly l p .1 (h .1)))))),
@@ -110,37 +109,19 @@ module _ (n : ℕ) (l out : List ℕ) where
       ↔ (Sized n out × ((t : Tree) × Text l t × LowestWith (λ x. Stands n t x → ⊥) p))
   unfolding readChecks textChecks lacks
   reading-18 p = (
-    λ e. let g = given-alone (check1 n ∷ check3 n out ∷ check17 (parsed l) ∷ []) (check18 n tree)
-        (checkLone (length l) tree ∷ []) 18 p refl refl (given 18 p e) in
+    λ e. let g = given-alone (check1 n ∷ check3 n out ∷ check17 (parsed l) ∷ []) (check18 n tree) [] 18 p refl refl (given 18 p e) in
         (sized-to n out (g .0 .0, (g .0 .1 .0, tt)), (tree, formed (g .0 .1 .1 .0), amiss-exactly n tree p .0 (g .1))),
     λ h. let s = sized-from n out (h .0) in let t = tree-of (h .1 .1) in
         gives 18 p (later (s .0) (later (s .1 .0) (later (t .0) (here refl
         (subst (λ (u : Tree). check18 n u .fault ≡ at p) (sym (t .1)) (amiss-exactly n (h .1 .0) p .1 (h .1 .2))))))),
   )
 
-  -- 10 is given for a text of the form with each sample once, at the lowest opening byte of a pair with one subtree
-  pub reading-10 : (q : ℕ) → (reading n l out .verdict ≡ refused 10 q)
-      ↔ (Sized n out × ((t : Tree) × Text l t × ((x : ℕ) → Stands n t x) × LowestWith (Single t) q))
-  unfolding readChecks textChecks lacks
-  reading-10 q = (
-    λ e. let g = given-alone (check1 n ∷ check3 n out ∷ check17 (parsed l) ∷ check18 n tree ∷ [])
-        (checkLone (length l) tree) [] 10 q refl refl (given 10 q e) in
-        let s = formed (g .0 .1 .1 .0) in
-        (sized-to n out (g .0 .0, (g .0 .1 .0, tt)), (tree, s, stands-exactly n tree .0 (g .0 .1 .1 .1 .0), single-exactly s q .0 (g .1))),
-    λ h. let s = sized-from n out (h .0) in let t = tree-of (h .1 .1) in
-        gives 10 q (later (s .0) (later (s .1 .0) (later (t .0) (later
-        (subst (λ (u : Tree). check18 n u .fault ≡ nowhere) (sym (t .1)) (stands-exactly n (h .1 .0) .1 (h .1 .2)))
-        (here refl (subst (λ (u : Tree). checkLone (length l) u .fault ≡ at q) (sym (t .1)) (single-exactly (h .1 .1) q .1 (h .1 .3)))))))),
-  )
-
-  -- a text is accepted exactly if it is of the form, and its tree can be read over n samples (RULES 14.9)
+  -- a text is accepted exactly if it is of the form and has each sample below n once and no other (RULES 14.9)
   pub reading-accepts : (reading n l out .verdict ≡ accepted) ↔ (Sized n out × ((t : Tree) × Text l t × Readable n t))
   unfolding reading readChecks textChecks
   reading-accepts = (
-    λ e. let h = chain-passed checks e in let s = formed (h .1 .1 .0) in (
-      sized-to n out (h .0, (h .1 .0, tt)),
-      (tree, s, record { once = stands-exactly n tree .0 (h .1 .1 .1 .0); paired = paired-exactly s .0 (h .1 .1 .1 .1 .0) }),
-    ),
+    λ e. let h = chain-passed checks e in
+        (sized-to n out (h .0, (h .1 .0, tt)), (tree, formed (h .1 .1 .0), stands-exactly n tree .0 (h .1 .1 .1 .0))),
     λ h. let s = sized-from n out (h .0) in let t = tree-of (h .1 .1) in
         passed-chain checks accepted (
           s .0,
@@ -148,14 +129,7 @@ module _ (n : ℕ) (l out : List ℕ) where
             s .1 .0,
             (
               t .0,
-              (
-                subst (λ (u : Tree). check18 n u .fault ≡ nowhere) (sym (t .1)) (stands-exactly n (h .1 .0) .1 (h .1 .2 .once)),
-                (
-                  subst (λ (u : Tree). checkLone (length l) u .fault ≡ nowhere) (sym (t .1))
-                      (paired-exactly (h .1 .1) .1 (h .1 .2 .paired)),
-                  tt,
-                ),
-              ),
+              (subst (λ (u : Tree). check18 n u .fault ≡ nowhere) (sym (t .1)) (stands-exactly n (h .1 .0) .1 (h .1 .2)), tt),
             ),
           ),
         ),
@@ -175,14 +149,13 @@ module _ (n : ℕ) (l out : List ℕ) (b : ℕ) (short : length l < b) (far : sa
           (λ w. absurd (x (rw (le-ltb p n k) (omega (arith, leb-false 1 (times p (samples (treeIn (parsed l)))) w)))))
           (decide (leb 1 (times p (samples (treeIn (parsed l))))))
 
-  pub reading-placed : Placed b (readChecks n (parsed l) (length l) out)
+  pub reading-placed : Placed b (readChecks n (parsed l) out)
   unfolding readChecks textChecks
   reading-placed = placed-line b 1 (outside fewestSamples mostSamples n) _ (omega arith)
       (λ e. placed-line b 3 (not (eqb (length out) (rowWords n))) _ (omega arith)
       (λ f. text-placed (samples-exactly n .0 e .1)))
     where
-      text-placed : n ≤ 512 → Placed b (check17 (parsed l) ∷ check18 n (treeIn (parsed l)) ∷ checkLone (length l) (treeIn (parsed l)) ∷ [])
+      text-placed : n ≤ 512 → Placed b (check17 (parsed l) ∷ check18 n (treeIn (parsed l)) ∷ [])
       text-placed m k p (here x e) = omega (arith, stop-exactly l p .0 (stopped (parsed l) p e) .within)
       text-placed m k p (later e (here x f)) = placed-18 e p f m
-      text-placed m k p (later e (later f g)) = placed-at b 10 (λ q. among q (lonely (treeIn (parsed l)))) 0 (length l) [] (omega arith)
-          (placed-none b) k p g
+      text-placed m k p (later e (later f g)) = placed-none b k p g

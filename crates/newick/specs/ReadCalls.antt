@@ -1,7 +1,6 @@
 -- What reading a Newick text answers and leaves (RULES 7.9, 14.9).
 use Prim.Native.Nat.{ℕ, max}
 use mathlib.Core.List.{List, [], _∷_}
-use lib.ListN.{length}
 use Rattle.trees.specs.Lists.{Place, nowhere, at, range}
 use Rattle.trees.specs.Checks.{Check, lineAt, check1, check3}
 use Rattle.trees.specs.Numbering.{ordered, branching, rowOf}
@@ -10,7 +9,7 @@ use Rattle.newick.specs.Tree.{Tree}
 use Rattle.newick.specs.Tree.Tree.{leaf}
 use Rattle.newick.specs.Walk.{Parse, parsed}
 use Rattle.newick.specs.Walk.Parse.{reads, stops}
-use Rattle.newick.specs.Meaning.{samples, groupsOf, above, amiss, among, lonely}
+use Rattle.newick.specs.Meaning.{samples, groupsOf, above, amiss}
 
 -- the place at which a text stops being of the form, if it does
 abbrev pub stopPlace : Parse → Place
@@ -30,22 +29,18 @@ check17 o = record { number = 17; fault = stopPlace o }
 abbrev pub check18 : ℕ → Tree → Check
 check18 n t = lineAt 18 (amiss n (samples t)) (range 0 (max n (above (samples t))))
 
--- check 10 of reading: the lowest opening byte of a pair with one subtree (RULES 7.5), in a text of so many bytes
-abbrev pub checkLone : ℕ → Tree → Check
-checkLone k t = lineAt 10 (λ q. among q (lonely t)) (range 0 k)
-
 -- the row in standard numbering that has the groups of a tree (RULES 14.9)
 unfoldable pub rowIn : ℕ → Tree → List ℕ
 rowIn n t = rowOf n (branching (ordered (groupsOf n t)))
 
--- 17, 18 and 10 of what a text of k bytes comes to
-unfoldable pub textChecks : ℕ → Parse → ℕ → List Check
-textChecks n o k = check17 o ∷ check18 n (treeIn o) ∷ checkLone k (treeIn o) ∷ []
+-- 17 and 18 of what a text comes to
+unfoldable pub textChecks : ℕ → Parse → List Check
+textChecks n o = check17 o ∷ check18 n (treeIn o) ∷ []
 
 -- the checks of reading (RULES 7.9)
-unfoldable pub readChecks : ℕ → Parse → ℕ → List ℕ → List Check
-readChecks n o k out = check1 n ∷ check3 n out ∷ textChecks n o k
+unfoldable pub readChecks : ℕ → Parse → List ℕ → List Check
+readChecks n o out = check1 n ∷ check3 n out ∷ textChecks n o
 
 -- what reading answers, and the buffer that it writes; the text is only read (RULES 7.6, 14.9)
 unfoldable pub reading : ℕ → List ℕ → List ℕ → Outcome
-reading n text out = outcome (readChecks n (parsed text) (length text) out) out (rowIn n (treeIn (parsed text)))
+reading n text out = outcome (readChecks n (parsed text) out) out (rowIn n (treeIn (parsed text)))

@@ -1,5 +1,5 @@
 -- Reading what was written gives the row renumbered. Assumes nothing.
-use Prim.Native.Nat.{ℕ, _-_, _≤_}
+use Prim.Native.Nat.{ℕ, _-_}
 use mathlib.Core.Path.{_≡_, refl, ap, subst, _∙_}
 use mathlib.Core.List.{List, []}
 use mathlib.Core.Bool.{Bool, cond}
@@ -7,7 +7,6 @@ use native.Mathlib.Omega.{arith}
 use lib.Dec.{ltb}
 use lib.ListN.{length}
 use borrow.Author.Tests.{ltb-true}
-use Rattle.trees.specs.Lists.{weigh}
 use Rattle.trees.specs.Groups.{Group, member}
 use Rattle.trees.specs.Rows.{nodes, meets, groups}
 use Rattle.trees.specs.Checks.{accepted, Check, _⊳_, rowWords}
@@ -22,20 +21,19 @@ use Rattle.newick.specs.Grammar.{mostOpen, Text}
 use Rattle.newick.specs.Grammar.All.{none}
 use Rattle.newick.specs.Walk.{Parse, parsed}
 use Rattle.newick.specs.Complete.{complete}
-use Rattle.newick.specs.Meaning.{samples, times, groupsOf, lonely}
+use Rattle.newick.specs.Meaning.{samples, times, groupsOf}
 use Rattle.newick.specs.ReadCalls.{treeIn, readChecks, rowIn, reading}
 use Rattle.newick.specs.RowText.{Wanted, nodeText, rootOf, written}
 use Rattle.newick.specs.ChildLaws.{pairs-few, root-at, root-above}
 use Rattle.newick.specs.ReadCallLaws.{reading-accepts}
 use Rattle.newick.specs.WrittenLaws.{shows, meant}
 
--- l is of the form and means a tree in which each sample below n stands once, no pair holds one subtree, and the groups are those of the row r
+-- l is of the form and means a tree in which each sample below n stands once, and the groups are those of the row r
 pub record Tells (n : ℕ) (r l : List ℕ) : Type 0 where
   pub tree : Tree
   pub text : Text l tree
   pub once : (x : ℕ) → times x (samples tree) ≡ cond (ltb x n) 1 0
   pub same : (g : Group) → member g (groupsOf n tree) ≡ member g (groups n r)
-  pub paired : lonely tree ≡ []
 
 -- the text of a valid row tells the row, with and without supports
 pub written-tells : (n : ℕ) (r : List ℕ) → Valid n r → (w : Wanted) → Tells n r (written n r w)
@@ -44,7 +42,7 @@ written-tells n r ok w =
     let v = rootOf n r in
     let h = root-at n r ok in
     let few = pairs-few n r ok v in
-    let m = meant n r ok w (nodes r) mostOpen v 0 (h .1) (omega arith) (omega (arith, ok .high, ok .most)) in record {
+    let m = meant n r ok w (nodes r) mostOpen v (h .1) (omega arith) (omega (arith, ok .high, ok .most)) in record {
       tree = m .tree;
       text = Text.a-text (nodeText (nodes r) n r w v) [] (m .tree) (m .form) none;
       once = λ x. m .stands x ∙ ap (λ (b : Bool). cond b 1 0) (true-eq (shows n r v x) (ltb x n)
@@ -53,17 +51,12 @@ written-tells n r ok w =
       same = λ g. true-eq (member g (groupsOf n (m .tree))) (member g (groups n r)) (m .sound g)
           (λ e. let t = in-groups n r g e in subst (λ (z : Group). In z (groupsOf n (m .tree))) (t .2)
           (m .whole (t .0) (t .1) (root-above n r ok (t .0) (t .1))));
-      paired = m .paired;
     }
 
 -- a tree with the groups of a row is read as the row renumbered
 pub row-in : (n : ℕ) (r : List ℕ) (t : Tree) → ((g : Group) → member g (groupsOf n t) ≡ member g (groups n r)) → rowIn n t ≡ renumbered n r
 unfolding rowIn renumbered groupSet
 row-in n r t e = ap (λ (gs : List Group). rowOf n (branching gs)) (ordered-same (groupsOf n t) (groups n r) e)
-
-none-paired : (q : ℕ) → 1 ≤ times q [] → ⊥
-unfolding weigh
-none-paired q h = omega arith
 
 -- what tells a row is read as the row renumbered
 pub tells-read : (n : ℕ) (r l out : List ℕ) → Valid n r → Tells n r l → length out ≡ rowWords n
@@ -72,9 +65,9 @@ unfolding reading
 tells-read n r l out ok h e =
     let a = reading-accepts n l out .1 (
       record { least = ok .least; most = ok .most; words = e },
-      (h .tree, h .text, record { once = h .once; paired = λ q s. none-paired q (rw (h .paired) at s) }),
+      (h .tree, h .text, h .once),
     ) in
-    outcome-of (readChecks n (parsed l) (length l) out) a
+    outcome-of (readChecks n (parsed l) out) a
     ∙ ap leaves (ap (λ (o : Parse). rowIn n (treeIn o)) (complete (h .text)) ∙ row-in n r (h .tree) (h .same))
   where
     leaves : List ℕ → Outcome

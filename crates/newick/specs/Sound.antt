@@ -20,7 +20,6 @@ use Rattle.newick.specs.Walk.State.{want, sample, closed, support, ended
 use Rattle.newick.specs.Walk.Move.{stuck, to}
 use Rattle.newick.specs.Walk.Parse.{reads, stops}
 use mathlib.Core.List.{append-assoc, append-nil}
-use lib.ListN.{length-append}
 use Rattle.newick.specs.ByteLaws.{kind-all, begun-zero, begun-other, digit-range}
 use Rattle.newick.specs.Grammar.{All, Blanks, Digits, Sample, Number, Support, Length, Subtree, Subtrees, mostOpen, Text}
 use Rattle.newick.specs.Grammar.All.{none, and}
@@ -30,11 +29,10 @@ use lib.Seq.{append-snoc}
 -- l opens the brackets of a stack
 pub data Open : Stack → List ℕ → Type 0 where
   bottom : Open top []
-  bracket : (k : Stack) (q : ℕ) (w l a : List ℕ) → w ≡ l ++ (a ++ (openingByte ∷ [])) → q ≡ length l + length a → Blanks a
-      → depth k < mostOpen
-      → Open k l → Open (opened k q) w
-  commaed : (k : Stack) (q : ℕ) (f : Forest) (w l m : List ℕ) (d : ℕ) → w ≡ l ++ (m ++ (commaByte ∷ [])) → suc (depth k) + d ≡ mostOpen
-      → Open (opened k q) l → Subtrees d (suc q) m f → Open (later k q f) w
+  bracket : (k : Stack) (w l a : List ℕ) → w ≡ l ++ (a ++ (openingByte ∷ [])) → Blanks a → depth k < mostOpen → Open k l
+      → Open (opened k) w
+  commaed : (k : Stack) (f : Forest) (w l m : List ℕ) (d : ℕ) → w ≡ l ++ (m ++ (commaByte ∷ [])) → suc (depth k) + d ≡ mostOpen
+      → Open (opened k) l → Subtrees d m f → Open (later k f) w
 
 -- l ends the subtree t in a stack
 pub record Fits (k : Stack) (l : List ℕ) (t : Tree) : Type 0 where
@@ -44,7 +42,7 @@ pub record Fits (k : Stack) (l : List ℕ) (t : Tree) : Type 0 where
   pub opens : Open k base
   pub d : ℕ
   pub deep : depth k + d ≡ mostOpen
-  pub sub : Subtree d (length base) word t
+  pub sub : Subtree d word t
 
 pub record Wants (k : Stack) (l : List ℕ) : Type 0 where
   pub base : List ℕ
@@ -57,8 +55,8 @@ pub record Wants (k : Stack) (l : List ℕ) : Type 0 where
 pub Before : State → List ℕ → Type 0
 Before (want k) l = Wants k l
 Before (sample k x c) l = (n m : List ℕ) → All isDigit n → length n ≤ c → Length m → Fits k (l ++ (n ++ m)) (leaf (valueAfter x n))
-Before (closed k q f) l = (s m : List ℕ) (μ : Mark) → Support s μ → Length m → Fits k (l ++ (s ++ m)) (pair q f μ)
-Before (support k q f x) l = (n m : List ℕ) → All isDigit n → Length m → Fits k (l ++ (n ++ m)) (pair q f (marked (valueAfter x n)))
+Before (closed k f) l = (s m : List ℕ) (μ : Mark) → Support s μ → Length m → Fits k (l ++ (s ++ m)) (pair f μ)
+Before (support k f x) l = (n m : List ℕ) → All isDigit n → Length m → Fits k (l ++ (n ++ m)) (pair f (marked (valueAfter x n)))
 Before (ended k t) l = (m : List ℕ) → Length m → Fits k (l ++ m) t
 Before (measure k t) l = (b n c : List ℕ) → Blanks b → Number n → Blanks c → Fits k (l ++ (b ++ (n ++ c))) t
 Before (whole k t) l = ((n c : List ℕ) → All isDigit n → Blanks c → Fits k (l ++ (n ++ c)) t) ×
@@ -68,16 +66,11 @@ Before (part k t) l = (n c : List ℕ) → All isDigit n → Blanks c → Fits k
 Before (measured k t) l = (c : List ℕ) → Blanks c → Fits k (l ++ c) t
 Before (done t) l = (a : List ℕ) → Blanks a → Text (l ++ a) t
 
-length-open : {k : Stack} {q : ℕ} {l : List ℕ} → Open (opened k q) l → length l ≡ suc q
-length-open (Open.bracket k q w m a e g b h o) =
-    let z : length w ≡ length m + (length a + 1) = ap length e ∙ length-append m (a ++ (openingByte ∷ []))
-    ∙ ap (length m +_) (length-append a (openingByte ∷ [])) in omega arith
-
 -- a pair of brackets, from its opening
-close-by : {k : Stack} {q : ℕ} {w : List ℕ} → Open (opened k q) w → (v : List ℕ) (f : Forest) (d : ℕ) → suc (depth k) + d ≡ mostOpen
-    → Subtrees d (suc q) v f
-    → (s m : List ℕ) (μ : Mark) → Support s μ → Length m → Fits k (w ++ (v ++ (closingByte ∷ (s ++ m)))) (pair q f μ)
-close-by (Open.bracket k q w l a e g b h o) v f d n u s m μ x y =
+close-by : {k : Stack} {w : List ℕ} → Open (opened k) w → (v : List ℕ) (f : Forest) (d : ℕ) → suc (depth k) + d ≡ mostOpen
+    → Subtrees d v f
+    → (s m : List ℕ) (μ : Mark) → Support s μ → Length m → Fits k (w ++ (v ++ (closingByte ∷ (s ++ m)))) (pair f μ)
+close-by (Open.bracket k w l a e b h o) v f d n u s m μ x y =
     record {
       base = l;
       word = a ++ (openingByte ∷ (v ++ (closingByte ∷ (s ++ m))));
@@ -85,22 +78,22 @@ close-by (Open.bracket k q w l a e g b h o) v f d n u s m μ x y =
       opens = o;
       d = suc d;
       deep = omega arith;
-      sub = Subtree.a-pair d (length l) q (a ++ (openingByte ∷ (v ++ (closingByte ∷ (s ++ m))))) a v s m f μ refl g b u x y;
+      sub = Subtree.a-pair d (a ++ (openingByte ∷ (v ++ (closingByte ∷ (s ++ m))))) a v s m f μ refl b u x y;
     }
 
 -- the subtrees of an open bracket, with one more
-pub record Holds (k : Stack) (q : ℕ) (l : List ℕ) (f : Forest) : Type 0 where
+pub record Holds (k : Stack) (l : List ℕ) (f : Forest) : Type 0 where
   pub base : List ℕ
   pub word : List ℕ
   pub split : l ≡ base ++ word
-  pub opens : Open (opened k q) base
+  pub opens : Open (opened k) base
   pub d : ℕ
   pub deep : suc (depth k) + d ≡ mostOpen
-  pub subs : Subtrees d (suc q) word f
+  pub subs : Subtrees d word f
 
-holds-first : (k : Stack) (q : ℕ) (l : List ℕ) (t : Tree) → Fits (opened k q) l t → Holds k q l (only t)
+holds-first : (k : Stack) (l : List ℕ) (t : Tree) → Fits (opened k) l t → Holds k l (only t)
 unfolding depth
-holds-first k q l t f =
+holds-first k l t f =
     record {
       base = f .base;
       word = f .word;
@@ -108,16 +101,13 @@ holds-first k q l t f =
       opens = f .opens;
       d = f .d;
       deep = f .deep;
-      subs = Subtrees.one (f .d) (suc q) (f .word) t (subst (λ (i : ℕ). Subtree (f .d) i (f .word) t) (length-open (f .opens)) (f .sub));
+      subs = Subtrees.one (f .d) (f .word) t (f .sub);
     }
 
-holds-later-at : {k : Stack} {q : ℕ} {g : Forest} {w : List ℕ} → Open (later k q g) w → (v : List ℕ) (t : Tree) (d : ℕ)
-    → suc (depth k) + d ≡ mostOpen → Subtree d (length w) v t → Holds k q (w ++ v) (more g t)
-holds-later-at (Open.commaed k q f w l m c e n o s) v t d h u =
+holds-later-at : {k : Stack} {g : Forest} {w : List ℕ} → Open (later k g) w → (v : List ℕ) (t : Tree) (d : ℕ)
+    → suc (depth k) + d ≡ mostOpen → Subtree d v t → Holds k (w ++ v) (more g t)
+holds-later-at (Open.commaed k f w l m c e n o s) v t d h u =
     let z : d ≡ c = omega arith in
-    let y : length w ≡ suc (suc q + length m) = ap length e ∙ length-append l (m ++ (commaByte ∷ []))
-    ∙ ap (length l +_) (length-append m (commaByte ∷ [])) ∙ (let y′ = length-open o in
-    let y″ : length l + (length m + 1) ≡ suc (suc q + length m) = omega arith in y″) in
     record {
       base = l;
       word = m ++ (commaByte ∷ v);
@@ -125,31 +115,30 @@ holds-later-at (Open.commaed k q f w l m c e n o s) v t d h u =
       opens = o;
       d = c;
       deep = n;
-      subs = Subtrees.parted c (suc q) (m ++ (commaByte ∷ v)) m v f t refl s
-          (subst (λ (i : ℕ). Subtree c i v t) y (subst (λ (i : ℕ). Subtree i (length w) v t) z u));
+      subs = Subtrees.parted c (m ++ (commaByte ∷ v)) m v f t refl s (subst (λ (i : ℕ). Subtree i v t) z u);
     }
 
-holds-later : (k : Stack) (q : ℕ) (g : Forest) (l : List ℕ) (t : Tree) → Fits (later k q g) l t → Holds k q l (more g t)
+holds-later : (k : Stack) (g : Forest) (l : List ℕ) (t : Tree) → Fits (later k g) l t → Holds k l (more g t)
 unfolding depth
-holds-later k q g l t f = rw (f .split) (holds-later-at (f .opens) (f .word) t (f .d) (f .deep) (f .sub))
+holds-later k g l t f = rw (f .split) (holds-later-at (f .opens) (f .word) t (f .d) (f .deep) (f .sub))
 
-holds-closed : (k : Stack) (q : ℕ) (l : List ℕ) (f : Forest) → Holds k q l f → Before (closed k q f) (l ++ (closingByte ∷ []))
+holds-closed : (k : Stack) (l : List ℕ) (f : Forest) → Holds k l f → Before (closed k f) (l ++ (closingByte ∷ []))
 unfolding Before
-holds-closed k q l f h s m μ x y =
-    subst (λ (z : List ℕ). Fits k z (pair q f μ)) (let e : h .base ++ (h .word ++ (closingByte ∷ (s ++ m))) ≡
+holds-closed k l f h s m μ x y =
+    subst (λ (z : List ℕ). Fits k z (pair f μ)) (let e : h .base ++ (h .word ++ (closingByte ∷ (s ++ m))) ≡
     (l ++ (closingByte ∷ [])) ++ (s ++ m) =
     rw (h .split) (simp append-assoc) in e)
     (close-by (h .opens) (h .word) f (h .d) (h .deep) (h .subs) s m μ x y)
 
-holds-comma : (k : Stack) (q : ℕ) (l : List ℕ) (f : Forest) → Holds k q l f → Before (want (later k q f)) (l ++ (commaByte ∷ []))
+holds-comma : (k : Stack) (l : List ℕ) (f : Forest) → Holds k l f → Before (want (later k f)) (l ++ (commaByte ∷ []))
 unfolding Before
-holds-comma k q l f h =
+holds-comma k l f h =
     record {
       base = l ++ (commaByte ∷ []);
       gap = [];
       split = sym (append-nil (l ++ (commaByte ∷ [])));
       blanks = none;
-      opens = Open.commaed k q f (l ++ (commaByte ∷ [])) (h .base) (h .word) (h .d) (rw (h .split) (simp append-assoc)) (h .deep) (h .opens)
+      opens = Open.commaed k f (l ++ (commaByte ∷ [])) (h .base) (h .word) (h .d) (rw (h .split) (simp append-assoc)) (h .deep) (h .opens)
           (h .subs);
     }
 
@@ -164,18 +153,18 @@ never e = absurd (let z : _≡_ {A = ℕ} 0 1 = cc in omega arith)
 shut-keeps : (k : Stack) (l : List ℕ) (t : Tree) (s′ : State) → Fits k l t → shut k t ≡ to s′ → Before s′ (l ++ (closingByte ∷ []))
 unfolding shut
 shut-keeps top l t s′ f e = never e
-shut-keeps (opened k q) l t s′ f e = subst (λ (z : State). Before z (l ++ (closingByte ∷ []))) (to-inj (closed k q (only t)) s′ e)
-    (holds-closed k q l (only t) (holds-first k q l t f))
-shut-keeps (later k q g) l t s′ f e = subst (λ (z : State). Before z (l ++ (closingByte ∷ []))) (to-inj (closed k q (more g t)) s′ e)
-    (holds-closed k q l (more g t) (holds-later k q g l t f))
+shut-keeps (opened k) l t s′ f e = subst (λ (z : State). Before z (l ++ (closingByte ∷ []))) (to-inj (closed k (only t)) s′ e)
+    (holds-closed k l (only t) (holds-first k l t f))
+shut-keeps (later k g) l t s′ f e = subst (λ (z : State). Before z (l ++ (closingByte ∷ []))) (to-inj (closed k (more g t)) s′ e)
+    (holds-closed k l (more g t) (holds-later k g l t f))
 
 next-keeps : (k : Stack) (l : List ℕ) (t : Tree) (s′ : State) → Fits k l t → next k t ≡ to s′ → Before s′ (l ++ (commaByte ∷ []))
 unfolding next
 next-keeps top l t s′ f e = never e
-next-keeps (opened k q) l t s′ f e = subst (λ (z : State). Before z (l ++ (commaByte ∷ []))) (to-inj (want (later k q (only t))) s′ e)
-    (holds-comma k q l (only t) (holds-first k q l t f))
-next-keeps (later k q g) l t s′ f e = subst (λ (z : State). Before z (l ++ (commaByte ∷ []))) (to-inj (want (later k q (more g t))) s′ e)
-    (holds-comma k q l (more g t) (holds-later k q g l t f))
+next-keeps (opened k) l t s′ f e = subst (λ (z : State). Before z (l ++ (commaByte ∷ []))) (to-inj (want (later k (only t))) s′ e)
+    (holds-comma k l (only t) (holds-first k l t f))
+next-keeps (later k g) l t s′ f e = subst (λ (z : State). Before z (l ++ (commaByte ∷ []))) (to-inj (want (later k (more g t))) s′ e)
+    (holds-comma k l (more g t) (holds-later k g l t f))
 
 open-top : {l : List ℕ} → Open top l → l ≡ []
 open-top Open.bottom = refl
@@ -183,19 +172,17 @@ open-top Open.bottom = refl
 done-by : (l : List ℕ) (t : Tree) → Fits top l t → Before (done t) (l ++ (semicolonByte ∷ []))
 unfolding Before depth
 done-by l t f a b =
-    let e : f .base ≡ [] = open-top (f .opens) in
     let n : f .d ≡ mostOpen = omega (arith, f .deep) in
-    let w : l ≡ f .word = f .split ∙ ap (_++ f .word) e in
-    let u : Subtree mostOpen 0 l t = rw w (subst (λ (i : ℕ). Subtree i 0 (f .word) t) n
-    (subst (λ (z : List ℕ). Subtree (f .d) (length z) (f .word) t) e (f .sub))) in
+    let w : l ≡ f .word = f .split ∙ ap (_++ f .word) (open-top (f .opens)) in
+    let u : Subtree mostOpen l t = rw w (subst (λ (i : ℕ). Subtree i (f .word) t) n (f .sub)) in
     subst (λ (z : List ℕ). Text z t) (let y : l ++ (semicolonByte ∷ a) ≡ (l ++ (semicolonByte ∷ [])) ++ a = simp append-assoc in y)
     (Text.a-text l a t u b)
 
 last-keeps : (k : Stack) (l : List ℕ) (t : Tree) (s′ : State) → Fits k l t → last k t ≡ to s′ → Before s′ (l ++ (semicolonByte ∷ []))
 unfolding last
 last-keeps top l t s′ f e = subst (λ (z : State). Before z (l ++ (semicolonByte ∷ []))) (to-inj (done t) s′ e) (done-by l t f)
-last-keeps (opened k q) l t s′ f e = never e
-last-keeps (later k q g) l t s′ f e = never e
+last-keeps (opened k) l t s′ f e = never e
+last-keeps (later k g) l t s′ f e = never e
 
 come : (s s′ : State) (l : List ℕ) → to s ≡ to s′ → Before s l → Before s′ l
 come s s′ l e h = subst (λ (z : State). Before z l) (to-inj s s′ e) h
@@ -224,10 +211,10 @@ colon-length : (b n c : List ℕ) → Blanks b → Number n → Blanks c → Len
 colon-length b n c x y z = Length.lengthed [] b c n none x y z
 
 keep-ended : (k : Stack) (t : Tree) (l : List ℕ) (b : ℕ) (s′ : State) → Before (ended k t) l
-    → step (ended k t) (length l) (kindOf b) ≡ to s′ → Before s′ (l ++ (b ∷ []))
+    → step (ended k t) (kindOf b) ≡ to s′ → Before s′ (l ++ (b ∷ []))
 unfolding Before step valueAfter longer
 keep-ended k t l b s′ f =
-    kind-all (λ κ. step (ended k t) (length l) κ ≡ to s′ → Before s′ (l ++ (b ∷ []))) b
+    kind-all (λ κ. step (ended k t) κ ≡ to s′ → Before s′ (l ++ (b ∷ []))) b
     (λ z e. come (ended k t) s′ (l ++ (b ∷ [])) e (λ m y. shift k t l b m (f (b ∷ m) (length-cons b z y))))
     (λ z e. never e)
     (λ z e. never e)
@@ -239,15 +226,15 @@ keep-ended k t l b s′ f =
     (λ z e. never e)
     (λ e. never e)
 
-keep-support : (k : Stack) (q : ℕ) (g : Forest) (i : ℕ) (l : List ℕ) (b : ℕ) (s′ : State) → Before (support k q g i) l
-    → step (support k q g i) (length l) (kindOf b) ≡ to s′ → Before s′ (l ++ (b ∷ []))
+keep-support : (k : Stack) (g : Forest) (i : ℕ) (l : List ℕ) (b : ℕ) (s′ : State) → Before (support k g i) l
+    → step (support k g i) (kindOf b) ≡ to s′ → Before s′ (l ++ (b ∷ []))
 unfolding Before step valueAfter longer
-keep-support k q g i l b s′ f =
-    let t = pair q g (marked i) in
-    kind-all (λ κ. step (support k q g i) (length l) κ ≡ to s′ → Before s′ (l ++ (b ∷ []))) b
+keep-support k g i l b s′ f =
+    let t = pair g (marked i) in
+    kind-all (λ κ. step (support k g i) κ ≡ to s′ → Before s′ (l ++ (b ∷ []))) b
     (λ z e. come (ended k t) s′ (l ++ (b ∷ [])) e (λ m y. shift k t l b m (f [] (b ∷ m) none (length-cons b z y))))
-    (λ z e. come (support k q g (i * 10 + (b - noughtByte))) s′ (l ++ (b ∷ [])) e
-    (λ n m a y. shift k (pair q g (marked (valueAfter (i * 10 + (b - noughtByte)) n))) l b (n ++ m) (f (b ∷ n) m (and b n z a) y)))
+    (λ z e. come (support k g (i * 10 + (b - noughtByte))) s′ (l ++ (b ∷ [])) e
+    (λ n m a y. shift k (pair g (marked (valueAfter (i * 10 + (b - noughtByte)) n))) l b (n ++ m) (f (b ∷ n) m (and b n z a) y)))
     (λ z e. never e)
     (λ z e. at-byte s′ l b closingByte z (shut-keeps k l t s′ (here k t l (f [] [] none no-length)) e))
     (λ z e. at-byte s′ l b commaByte z (next-keeps k l t s′ (here k t l (f [] [] none no-length)) e))
@@ -257,16 +244,16 @@ keep-support k q g i l b s′ f =
     (λ z e. never e)
     (λ e. never e)
 
-keep-closed : (k : Stack) (q : ℕ) (g : Forest) (l : List ℕ) (b : ℕ) (s′ : State) → Before (closed k q g) l
-    → step (closed k q g) (length l) (kindOf b) ≡ to s′ → Before s′ (l ++ (b ∷ []))
+keep-closed : (k : Stack) (g : Forest) (l : List ℕ) (b : ℕ) (s′ : State) → Before (closed k g) l
+    → step (closed k g) (kindOf b) ≡ to s′ → Before s′ (l ++ (b ∷ []))
 unfolding Before step valueAfter longer
-keep-closed k q g l b s′ f =
-    let t = pair q g unmarked in
-    kind-all (λ κ. step (closed k q g) (length l) κ ≡ to s′ → Before s′ (l ++ (b ∷ []))) b
-    (λ z e. come (closed k q g) s′ (l ++ (b ∷ [])) e (λ n m μ x y. shift k (pair q g μ) l b (n ++ m)
+keep-closed k g l b s′ f =
+    let t = pair g unmarked in
+    kind-all (λ κ. step (closed k g) κ ≡ to s′ → Before s′ (l ++ (b ∷ []))) b
+    (λ z e. come (closed k g) s′ (l ++ (b ∷ [])) e (λ n m μ x y. shift k (pair g μ) l b (n ++ m)
     (f (b ∷ n) m μ (support-cons b z x) y)))
-    (λ z e. come (support k q g (b - noughtByte)) s′ (l ++ (b ∷ [])) e
-    (λ n m a y. shift k (pair q g (marked (valueAfter (b - noughtByte) n))) l b
+    (λ z e. come (support k g (b - noughtByte)) s′ (l ++ (b ∷ [])) e
+    (λ n m a y. shift k (pair g (marked (valueAfter (b - noughtByte) n))) l b
     (n ++ m) (f (b ∷ n) m (marked (valueAfter (b - noughtByte) n)) (Support.supported [] b n none z a) y)))
     (λ z e. never e)
     (λ z e. at-byte s′ l b closingByte z (shut-keeps k l t s′ (here k t l (f [] [] unmarked (Support.unsupported [] none) no-length)) e))
@@ -279,10 +266,10 @@ keep-closed k q g l b s′ f =
     (λ e. never e)
 
 keep-measure : (k : Stack) (t : Tree) (l : List ℕ) (b : ℕ) (s′ : State) → Before (measure k t) l
-    → step (measure k t) (length l) (kindOf b) ≡ to s′ → Before s′ (l ++ (b ∷ []))
+    → step (measure k t) (kindOf b) ≡ to s′ → Before s′ (l ++ (b ∷ []))
 unfolding Before step valueAfter longer
 keep-measure k t l b s′ f =
-    kind-all (λ κ. step (measure k t) (length l) κ ≡ to s′ → Before s′ (l ++ (b ∷ []))) b
+    kind-all (λ κ. step (measure k t) κ ≡ to s′ → Before s′ (l ++ (b ∷ []))) b
     (λ z e. come (measure k t) s′ (l ++ (b ∷ [])) e (λ u n c x y w. shift k t l b (u ++ (n ++ c)) (f (b ∷ u) n c (and b u z x) y w)))
     (λ z e. come (whole k t) s′ (l ++ (b ∷ [])) e (
       (λ n c a w. shift k t l b (n ++ c)
@@ -300,10 +287,10 @@ keep-measure k t l b s′ f =
     (λ e. never e)
 
 keep-whole : (k : Stack) (t : Tree) (l : List ℕ) (b : ℕ) (s′ : State) → Before (whole k t) l
-    → step (whole k t) (length l) (kindOf b) ≡ to s′ → Before s′ (l ++ (b ∷ []))
+    → step (whole k t) (kindOf b) ≡ to s′ → Before s′ (l ++ (b ∷ []))
 unfolding Before step valueAfter longer
 keep-whole k t l b s′ f =
-    kind-all (λ κ. step (whole k t) (length l) κ ≡ to s′ → Before s′ (l ++ (b ∷ []))) b
+    kind-all (λ κ. step (whole k t) κ ≡ to s′ → Before s′ (l ++ (b ∷ []))) b
     (λ z e. come (measured k t) s′ (l ++ (b ∷ [])) e (λ c w. shift k t l b c (f .0 [] (b ∷ c) none (and b c z w))))
     (λ z e. come (whole k t) s′ (l ++ (b ∷ [])) e (
       (λ n c a w. shift k t l b (n ++ c) (f .0 (b ∷ n) c (and b n z a) w)),
@@ -319,10 +306,10 @@ keep-whole k t l b s′ f =
     (λ e. never e)
 
 keep-point : (k : Stack) (t : Tree) (l : List ℕ) (b : ℕ) (s′ : State) → Before (point k t) l
-    → step (point k t) (length l) (kindOf b) ≡ to s′ → Before s′ (l ++ (b ∷ []))
+    → step (point k t) (kindOf b) ≡ to s′ → Before s′ (l ++ (b ∷ []))
 unfolding Before step valueAfter longer
 keep-point k t l b s′ f =
-    kind-all (λ κ. step (point k t) (length l) κ ≡ to s′ → Before s′ (l ++ (b ∷ []))) b
+    kind-all (λ κ. step (point k t) κ ≡ to s′ → Before s′ (l ++ (b ∷ []))) b
     (λ z e. never e)
     (λ z e. come (part k t) s′ (l ++ (b ∷ [])) e (λ n c a w. shift k t l b (n ++ c) (f (b ∷ n) c (digits b n z a) w)))
     (λ z e. never e)
@@ -334,10 +321,10 @@ keep-point k t l b s′ f =
     (λ e. never e)
 
 keep-part : (k : Stack) (t : Tree) (l : List ℕ) (b : ℕ) (s′ : State) → Before (part k t) l
-    → step (part k t) (length l) (kindOf b) ≡ to s′ → Before s′ (l ++ (b ∷ []))
+    → step (part k t) (kindOf b) ≡ to s′ → Before s′ (l ++ (b ∷ []))
 unfolding Before step valueAfter longer
 keep-part k t l b s′ f =
-    kind-all (λ κ. step (part k t) (length l) κ ≡ to s′ → Before s′ (l ++ (b ∷ []))) b
+    kind-all (λ κ. step (part k t) κ ≡ to s′ → Before s′ (l ++ (b ∷ []))) b
     (λ z e. come (measured k t) s′ (l ++ (b ∷ [])) e (λ c w. shift k t l b c (f [] (b ∷ c) none (and b c z w))))
     (λ z e. come (part k t) s′ (l ++ (b ∷ [])) e (λ n c a w. shift k t l b (n ++ c) (f (b ∷ n) c (and b n z a) w)))
     (λ z e. never e)
@@ -349,10 +336,10 @@ keep-part k t l b s′ f =
     (λ e. never e)
 
 keep-measured : (k : Stack) (t : Tree) (l : List ℕ) (b : ℕ) (s′ : State) → Before (measured k t) l
-    → step (measured k t) (length l) (kindOf b) ≡ to s′ → Before s′ (l ++ (b ∷ []))
+    → step (measured k t) (kindOf b) ≡ to s′ → Before s′ (l ++ (b ∷ []))
 unfolding Before step valueAfter longer
 keep-measured k t l b s′ f =
-    kind-all (λ κ. step (measured k t) (length l) κ ≡ to s′ → Before s′ (l ++ (b ∷ []))) b
+    kind-all (λ κ. step (measured k t) κ ≡ to s′ → Before s′ (l ++ (b ∷ []))) b
     (λ z e. come (measured k t) s′ (l ++ (b ∷ [])) e (λ c w. shift k t l b c (f (b ∷ c) (and b c z w))))
     (λ z e. never e)
     (λ z e. never e)
@@ -363,11 +350,11 @@ keep-measured k t l b s′ f =
     (λ z e. never e)
     (λ e. never e)
 
-keep-done : (t : Tree) (l : List ℕ) (b : ℕ) (s′ : State) → Before (done t) l → step (done t) (length l) (kindOf b) ≡ to s′
+keep-done : (t : Tree) (l : List ℕ) (b : ℕ) (s′ : State) → Before (done t) l → step (done t) (kindOf b) ≡ to s′
     → Before s′ (l ++ (b ∷ []))
 unfolding Before step valueAfter longer
 keep-done t l b s′ f =
-    kind-all (λ κ. step (done t) (length l) κ ≡ to s′ → Before s′ (l ++ (b ∷ []))) b
+    kind-all (λ κ. step (done t) κ ≡ to s′ → Before s′ (l ++ (b ∷ []))) b
     (λ z e. come (done t) s′ (l ++ (b ∷ [])) e (λ c w. subst (λ (r : List ℕ). Text r t) (sym (append-snoc l b c))
     (f (b ∷ c) (and b c z w))))
     (λ z e. never e)
@@ -389,10 +376,10 @@ longer-keeps k x (suc c) l b s′ z f e =
     (n ++ m) (f (b ∷ n) m (and b n z a) (omega arith) y))
 
 keep-sample : (k : Stack) (x c : ℕ) (l : List ℕ) (b : ℕ) (s′ : State) → Before (sample k x c) l
-    → step (sample k x c) (length l) (kindOf b) ≡ to s′ → Before s′ (l ++ (b ∷ []))
+    → step (sample k x c) (kindOf b) ≡ to s′ → Before s′ (l ++ (b ∷ []))
 unfolding Before step valueAfter
 keep-sample k x c l b s′ f =
-    kind-all (λ κ. step (sample k x c) (length l) κ ≡ to s′ → Before s′ (l ++ (b ∷ []))) b
+    kind-all (λ κ. step (sample k x c) κ ≡ to s′ → Before s′ (l ++ (b ∷ []))) b
     (λ z e. come (ended k (leaf x)) s′ (l ++ (b ∷ [])) e (λ m y. shift k (leaf x) l b m
     (f [] (b ∷ m) none (omega arith) (length-cons b z y))))
     (λ z e. longer-keeps k x c l b s′ z f e)
@@ -409,8 +396,8 @@ keep-sample k x c l b s′ f =
 open-deep : {k : Stack} {l : List ℕ} → Open k l → depth k ≤ mostOpen
 unfolding depth
 open-deep Open.bottom = omega arith
-open-deep (Open.bracket k q w l a e g b h o) = omega arith
-open-deep (Open.commaed k q f w l m d e n o s) = omega arith
+open-deep (Open.bracket k w l a e b h o) = omega arith
+open-deep (Open.commaed k f w l m d e n o s) = omega arith
 
 all-snoc : (t : ℕ → Bool) {l : List ℕ} (b : ℕ) → t b ≡ true → All t l → All t (l ++ (b ∷ []))
 all-snoc t b e none = and b [] e none
@@ -426,7 +413,7 @@ leaf-fits k l v m x h s y =
       opens = h .opens;
       d = mostOpen - depth k;
       deep = (let z = open-deep (h .opens) in omega arith);
-      sub = Subtree.a-sample (mostOpen - depth k) (length (h .base)) (h .gap ++ (v ++ m)) (h .gap) v m x refl (h .blanks) s y;
+      sub = Subtree.a-sample (mostOpen - depth k) (h .gap ++ (v ++ m)) (h .gap) v m x refl (h .blanks) s y;
     }
 
 nought-keeps : (k : Stack) (l : List ℕ) → Wants k l → Before (sample k 0 0) (l ++ (noughtByte ∷ []))
@@ -447,25 +434,25 @@ first-keeps k l b false d z h =
     (leaf-fits k l (b ∷ n) m (valueAfter (b - noughtByte) n) h (Sample.numeral b n z (eqb-false b noughtByte d) a w) y))
 
 entered-keeps : (k : Stack) (l : List ℕ) (s′ : State) (x : Bool) → ltb (depth k) mostOpen ≡ x → Wants k l
-    → allowed x (want (opened k (length l))) ≡ to s′ → Before s′ (l ++ (openingByte ∷ []))
+    → allowed x (want (opened k)) ≡ to s′ → Before s′ (l ++ (openingByte ∷ []))
 unfolding Before
 entered-keeps k l s′ false d h e = never e
 entered-keeps k l s′ true d h e =
-    come (want (opened k (length l))) s′ (l ++ (openingByte ∷ [])) e
+    come (want (opened k)) s′ (l ++ (openingByte ∷ [])) e
     (record {
       base = l ++ (openingByte ∷ []);
       gap = [];
       split = sym (append-nil (l ++ (openingByte ∷ [])));
       blanks = none;
-      opens = Open.bracket k (length l) (l ++ (openingByte ∷ [])) (h .base) (h .gap) (rw (h .split) (simp append-assoc))
-          (ap length (h .split) ∙ length-append (h .base) (h .gap)) (h .blanks) (ltb-true (depth k) mostOpen d) (h .opens);
+      opens = Open.bracket k (l ++ (openingByte ∷ [])) (h .base) (h .gap) (rw (h .split) (simp append-assoc)) (h .blanks)
+          (ltb-true (depth k) mostOpen d) (h .opens);
     })
 
-keep-want : (k : Stack) (l : List ℕ) (b : ℕ) (s′ : State) → Before (want k) l → step (want k) (length l) (kindOf b) ≡ to s′
+keep-want : (k : Stack) (l : List ℕ) (b : ℕ) (s′ : State) → Before (want k) l → step (want k) (kindOf b) ≡ to s′
     → Before s′ (l ++ (b ∷ []))
 unfolding Before step entered
 keep-want k l b s′ f =
-    kind-all (λ κ. step (want k) (length l) κ ≡ to s′ → Before s′ (l ++ (b ∷ []))) b
+    kind-all (λ κ. step (want k) κ ≡ to s′ → Before s′ (l ++ (b ∷ []))) b
     (λ z e. come (want k) s′ (l ++ (b ∷ [])) e (record {
       base = f .base;
       gap = f .gap ++ (b ∷ []);
@@ -478,11 +465,11 @@ keep-want k l b s′ f =
     (λ z e. at-byte s′ l b openingByte z (entered-keeps k l s′ (ltb (depth k) mostOpen) refl f e))
     (λ z e. never e) (λ z e. never e) (λ z e. never e) (λ z e. never e) (λ z e. never e) (λ e. never e)
 
-keep : (s : State) (l : List ℕ) (b : ℕ) (s′ : State) → Before s l → step s (length l) (kindOf b) ≡ to s′ → Before s′ (l ++ (b ∷ []))
+keep : (s : State) (l : List ℕ) (b : ℕ) (s′ : State) → Before s l → step s (kindOf b) ≡ to s′ → Before s′ (l ++ (b ∷ []))
 keep (want k) l b s′ f e = keep-want k l b s′ f e
 keep (sample k x c) l b s′ f e = keep-sample k x c l b s′ f e
-keep (closed k q g) l b s′ f e = keep-closed k q g l b s′ f e
-keep (support k q g x) l b s′ f e = keep-support k q g x l b s′ f e
+keep (closed k g) l b s′ f e = keep-closed k g l b s′ f e
+keep (support k g x) l b s′ f e = keep-support k g x l b s′ f e
 keep (ended k t) l b s′ f e = keep-ended k t l b s′ f e
 keep (measure k t) l b s′ f e = keep-measure k t l b s′ f e
 keep (whole k t) l b s′ f e = keep-whole k t l b s′ f e
@@ -494,40 +481,36 @@ keep (done t) l b s′ f e = keep-done t l b s′ f e
 off : {P : Type 0} (p : ℕ) (t : Tree) → stops p ≡ reads t → P
 off p t e = absurd (let z : _≡_ {A = ℕ} 0 1 = cc in omega arith)
 
-final-keeps : (s : State) (l : List ℕ) (t : Tree) → Before s l → final s (length l) ≡ reads t → Text l t
+final-keeps : (s : State) (p : ℕ) (l : List ℕ) (t : Tree) → Before s l → final s p ≡ reads t → Text l t
 unfolding Before final
-final-keeps (done u) l t f e = let z : u ≡ t = cc in subst (λ (r : Tree). Text l r) z
+final-keeps (done u) p l t f e = let z : u ≡ t = cc in subst (λ (r : Tree). Text l r) z
     (subst (λ (r : List ℕ). Text r u) (append-nil l) (f [] none))
-final-keeps (want k) l t f e = off _ _ e
-final-keeps (sample k x c) l t f e = off _ _ e
-final-keeps (closed k q g) l t f e = off _ _ e
-final-keeps (support k q g x) l t f e = off _ _ e
-final-keeps (ended k u) l t f e = off _ _ e
-final-keeps (measure k u) l t f e = off _ _ e
-final-keeps (whole k u) l t f e = off _ _ e
-final-keeps (point k u) l t f e = off _ _ e
-final-keeps (part k u) l t f e = off _ _ e
-final-keeps (measured k u) l t f e = off _ _ e
+final-keeps (want k) p l t f e = off _ _ e
+final-keeps (sample k x c) p l t f e = off _ _ e
+final-keeps (closed k g) p l t f e = off _ _ e
+final-keeps (support k g x) p l t f e = off _ _ e
+final-keeps (ended k u) p l t f e = off _ _ e
+final-keeps (measure k u) p l t f e = off _ _ e
+final-keeps (whole k u) p l t f e = off _ _ e
+final-keeps (point k u) p l t f e = off _ _ e
+final-keeps (part k u) p l t f e = off _ _ e
+final-keeps (measured k u) p l t f e = off _ _ e
 
-walk-keeps-at : (s : State) (l r : List ℕ) (b : ℕ) (t : Tree) (m : Move) → step s (length l) (kindOf b) ≡ m
-    → follow m (length l) (λ s′. walk s′ (suc (length l)) r) ≡ reads t
-    → ((s′ : State) → step s (length l) (kindOf b) ≡ to s′ → walk s′ (suc (length l)) r ≡ reads t → Text (l ++ (b ∷ r)) t)
+walk-keeps-at : (s : State) (p : ℕ) (l r : List ℕ) (b : ℕ) (t : Tree) (m : Move) → step s (kindOf b) ≡ m
+    → follow m p (λ s′. walk s′ (suc p) r) ≡ reads t
+    → ((s′ : State) → step s (kindOf b) ≡ to s′ → walk s′ (suc p) r ≡ reads t → Text (l ++ (b ∷ r)) t)
     → Text (l ++ (b ∷ r)) t
-walk-keeps-at s l r b t stuck d e f = off _ _ e
-walk-keeps-at s l r b t (to s′) d e f = f s′ d e
+walk-keeps-at s p l r b t stuck d e f = off _ _ e
+walk-keeps-at s p l r b t (to s′) d e f = f s′ d e
 
-length-snoc : (l : List ℕ) (b : ℕ) → length (l ++ (b ∷ [])) ≡ suc (length l)
-length-snoc l b = let z = length-append l (b ∷ []) in omega arith
-
-walk-keeps : (r : List ℕ) (s : State) (l : List ℕ) (t : Tree) → Before s l → walk s (length l) r ≡ reads t → Text (l ++ r) t
+walk-keeps : (r : List ℕ) (s : State) (p : ℕ) (l : List ℕ) (t : Tree) → Before s l → walk s p r ≡ reads t → Text (l ++ r) t
 unfolding walk
-walk-keeps [] s l t f e = subst (λ (z : List ℕ). Text z t) (sym (append-nil l)) (final-keeps s l t f e)
-walk-keeps (b ∷ r) s l t f e =
-    walk-keeps-at s l r b t (step s (length l) (kindOf b)) refl e
-    (λ s′ d w. subst (λ (z : List ℕ). Text z t) (append-snoc l b r)
-    (walk-keeps r s′ (l ++ (b ∷ [])) t (keep s l b s′ f d) (subst (λ (i : ℕ). walk s′ i r ≡ reads t) (sym (length-snoc l b)) w)))
+walk-keeps [] s p l t f e = subst (λ (z : List ℕ). Text z t) (sym (append-nil l)) (final-keeps s p l t f e)
+walk-keeps (b ∷ r) s p l t f e =
+    walk-keeps-at s p l r b t (step s (kindOf b)) refl e
+    (λ s′ d w. subst (λ (z : List ℕ). Text z t) (append-snoc l b r) (walk-keeps r s′ (suc p) (l ++ (b ∷ [])) t (keep s l b s′ f d) w))
 
 -- what is read is of the form, with the tree that it comes to
 pub sound : (l : List ℕ) (t : Tree) → parsed l ≡ reads t → Text l t
 unfolding parsed Before
-sound l t e = walk-keeps l (want top) [] t (record { base = []; gap = []; split = refl; opens = Open.bottom; blanks = none }) e
+sound l t e = walk-keeps l (want top) 0 [] t (record { base = []; gap = []; split = refl; opens = Open.bottom; blanks = none }) e

@@ -1,5 +1,4 @@
--- What a Newick text means (RULES 14.8): samples, and pairs with the place of the opening byte and the number behind
--- the closing one.
+-- What a Newick text means (RULES 14.8): samples, and pairs with the number behind the closing bracket.
 use Prim.Native.Nat.{ℕ, zero, suc}
 
 -- the number of the run of digits behind a closing bracket, if there is one (RULES 14.4)
@@ -11,32 +10,32 @@ pub data Mark : Type 0 where
 mutual
   pub data Tree : Type 0 where
     leaf : ℕ → Tree
-    pair : ℕ → Forest → Mark → Tree
+    pair : Forest → Mark → Tree
 
   pub data Forest : Type 0 where
     only : Tree → Forest
     more : Forest → Tree → Forest
 
--- the brackets that are open: none; one opened at a byte, with no comma yet; one with the subtrees before its last comma
+-- the brackets that are open: none; one with no comma yet; one with the subtrees before its last comma
 pub data Stack : Type 0 where
   top : Stack
-  opened : Stack → ℕ → Stack
-  later : Stack → ℕ → Forest → Stack
+  opened : Stack → Stack
+  later : Stack → Forest → Stack
 
 -- how many brackets are open
 unfoldable pub depth : Stack → ℕ
 depth top = zero
-depth (opened k p) = suc (depth k)
-depth (later k p f) = suc (depth k)
+depth (opened k) = suc (depth k)
+depth (later k f) = suc (depth k)
 
 -- the subtrees of the innermost bracket so far: none, or some before a comma
 pub data Held : Type 0 where
   nothing : Held
   some : Forest → Held
 
-abbrev pub frame : Stack → ℕ → Held → Stack
-frame k a nothing = opened k a
-frame k a (some f) = later k a f
+abbrev pub frame : Stack → Held → Stack
+frame k nothing = opened k
+frame k (some f) = later k f
 
 abbrev pub hold : Held → Tree → Forest
 hold nothing t = only t

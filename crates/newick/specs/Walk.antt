@@ -20,9 +20,9 @@ pub data State : Type 0 where
   want : Stack → State
   -- in a sample: its value so far, and how many digits may still come
   sample : Stack → ℕ → ℕ → State
-  -- after the closing bracket of a pair opened at a place, where a run of digits may come; in that run, its value so far
-  closed : Stack → ℕ → Forest → State
-  support : Stack → ℕ → Forest → ℕ → State
+  -- after the closing bracket of a pair, where a run of digits may come; in that run, its value so far
+  closed : Stack → Forest → State
+  support : Stack → Forest → ℕ → State
   -- after a subtree, where a colon may come
   ended : Stack → Tree → State
   -- after a colon; in the number before the point; right after the point; in the number after it; after the number
@@ -51,8 +51,8 @@ allowed true s = to s
 allowed false s = stuck
 
 -- an opening bracket, where one may still be opened (RULES 14.6)
-unfoldable pub entered : Stack → ℕ → Move
-entered k p = allowed (ltb (depth k) mostOpen) (want (opened k p))
+unfoldable pub entered : Stack → Move
+entered k = allowed (ltb (depth k) mostOpen) (want (opened k))
 
 -- the first digit of a sample: behind a 0 no digit may come, else four (RULES 14.3)
 unfoldable pub begun : Stack → ℕ → State
@@ -66,18 +66,18 @@ longer k x (suc c) d = to (sample k (x * 10 + d) c)
 -- a closing bracket, a comma and a semicolon after the subtree t
 unfoldable pub shut : Stack → Tree → Move
 shut top t = stuck
-shut (opened k p) t = to (closed k p (only t))
-shut (later k p f) t = to (closed k p (more f t))
+shut (opened k) t = to (closed k (only t))
+shut (later k f) t = to (closed k (more f t))
 
 unfoldable pub next : Stack → Tree → Move
 next top t = stuck
-next (opened k p) t = to (want (later k p (only t)))
-next (later k p f) t = to (want (later k p (more f t)))
+next (opened k) t = to (want (later k (only t)))
+next (later k f) t = to (want (later k (more f t)))
 
 unfoldable pub last : Stack → Tree → Move
 last top t = to (done t)
-last (opened k p) t = stuck
-last (later k p f) t = stuck
+last (opened k) t = stuck
+last (later k f) t = stuck
 
 -- the moves behind a subtree t: a closing bracket, a comma and a semicolon always, the others as given
 abbrev pub after : Stack → Tree → Kind → Move → Move → Move → (ℕ → Move) → Move
@@ -86,22 +86,22 @@ after k t b at-blank at-colon at-dot at-digit = pick b at-blank stuck (shut k t)
 abbrev pub never : ℕ → Move
 never d = stuck
 
--- the byte at place p, of the given kind, in a state
-unfoldable pub step : State → ℕ → Kind → Move
-step (want k) p b = pick b (to (want k)) (entered k p) stuck stuck stuck stuck stuck (λ d. to (begun k d))
-step (sample k x c) p b = after k (leaf x) b (to (ended k (leaf x))) (to (measure k (leaf x))) stuck (λ d. longer k x c d)
-step (closed k q f) p b =
-    after k (pair q f unmarked) b (to (closed k q f)) (to (measure k (pair q f unmarked))) stuck (λ d. to (support k q f d))
-step (support k q f x) p b =
-    after k (pair q f (marked x)) b (to (ended k (pair q f (marked x)))) (to (measure k (pair q f (marked x)))) stuck
-    (λ d. to (support k q f (x * 10 + d)))
-step (ended k t) p b = after k t b (to (ended k t)) (to (measure k t)) stuck never
-step (measure k t) p b = pick b (to (measure k t)) stuck stuck stuck stuck stuck stuck (λ d. to (whole k t))
-step (whole k t) p b = after k t b (to (measured k t)) stuck (to (point k t)) (λ d. to (whole k t))
-step (point k t) p b = pick b stuck stuck stuck stuck stuck stuck stuck (λ d. to (part k t))
-step (part k t) p b = after k t b (to (measured k t)) stuck stuck (λ d. to (part k t))
-step (measured k t) p b = after k t b (to (measured k t)) stuck stuck never
-step (done t) p b = pick b (to (done t)) stuck stuck stuck stuck stuck stuck never
+-- a byte of the given kind in a state
+unfoldable pub step : State → Kind → Move
+step (want k) b = pick b (to (want k)) (entered k) stuck stuck stuck stuck stuck (λ d. to (begun k d))
+step (sample k x c) b = after k (leaf x) b (to (ended k (leaf x))) (to (measure k (leaf x))) stuck (λ d. longer k x c d)
+step (closed k f) b =
+    after k (pair f unmarked) b (to (closed k f)) (to (measure k (pair f unmarked))) stuck (λ d. to (support k f d))
+step (support k f x) b =
+    after k (pair f (marked x)) b (to (ended k (pair f (marked x)))) (to (measure k (pair f (marked x)))) stuck
+    (λ d. to (support k f (x * 10 + d)))
+step (ended k t) b = after k t b (to (ended k t)) (to (measure k t)) stuck never
+step (measure k t) b = pick b (to (measure k t)) stuck stuck stuck stuck stuck stuck (λ d. to (whole k t))
+step (whole k t) b = after k t b (to (measured k t)) stuck (to (point k t)) (λ d. to (whole k t))
+step (point k t) b = pick b stuck stuck stuck stuck stuck stuck stuck (λ d. to (part k t))
+step (part k t) b = after k t b (to (measured k t)) stuck stuck (λ d. to (part k t))
+step (measured k t) b = after k t b (to (measured k t)) stuck stuck never
+step (done t) b = pick b (to (done t)) stuck stuck stuck stuck stuck stuck never
 
 -- what a text comes to: a tree, or the place where it stops being one
 pub data Parse : Type 0 where
@@ -113,8 +113,8 @@ unfoldable pub final : State → ℕ → Parse
 final (done t) p = reads t
 final (want k) p = stops p
 final (sample k x c) p = stops p
-final (closed k q f) p = stops p
-final (support k q f x) p = stops p
+final (closed k f) p = stops p
+final (support k f x) p = stops p
 final (ended k t) p = stops p
 final (measure k t) p = stops p
 final (whole k t) p = stops p
@@ -129,7 +129,7 @@ follow (to s) p f = f s
 -- the bytes from place p on, read from a state
 unfoldable pub walk : State → ℕ → List ℕ → Parse
 walk s p [] = final s p
-walk s p (b ∷ l) = follow (step s p (kindOf b)) p (λ s′. walk s′ (suc p) l)
+walk s p (b ∷ l) = follow (step s (kindOf b)) p (λ s′. walk s′ (suc p) l)
 
 -- what a whole text comes to
 unfoldable pub parsed : List ℕ → Parse

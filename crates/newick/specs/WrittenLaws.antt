@@ -27,7 +27,7 @@ use Rattle.newick.specs.Tree.Tree.{leaf, pair}
 use Rattle.newick.specs.Tree.Forest.{only, more}
 use Rattle.newick.specs.Grammar.{Support, Length, Subtree, Subtrees}
 use Rattle.newick.specs.Grammar.All.{none}
-use Rattle.newick.specs.Meaning.{samples, samplesIn, times, among, groupOf, groupsOf, groupsIn, lone, lonely, lonelyIn}
+use Rattle.newick.specs.Meaning.{samples, samplesIn, times, among, groupOf, groupsOf, groupsIn}
 use Rattle.newick.specs.RowText.{Wanted, childrenOf, commas, listed, wordText, markText, nodeText}
 use Rattle.newick.specs.RowText.Wanted.{plain, with-words}
 use Rattle.newick.specs.DigitLaws.{decimal-support, decimal-sample}
@@ -56,23 +56,20 @@ module _ (n : ℕ) (r : List ℕ) where
   shows v x = ltb x n && meets (nodes r) r v x
 
   -- l is the text of a tree with the samples and groups below node v
-  pub record Meant (v d p : ℕ) (l : List ℕ) : Type 0 where
+  pub record Meant (v d : ℕ) (l : List ℕ) : Type 0 where
     pub tree : Tree
-    pub form : Subtree d p l tree
+    pub form : Subtree d l tree
     pub stands : (x : ℕ) → times x (samples tree) ≡ cond (shows v x) 1 0
     pub sound : (g : Group) → In g (groupsOf n tree) → In g (groups n r)
     pub whole : (u : ℕ) → u < nodes r → Above r v u → In (groupAt n r u) (groupsOf n tree)
-    pub paired : lonely tree ≡ []
 
   -- and of trees with those below each of some nodes
-  pub record MeantIn (cs : List ℕ) (d p : ℕ) (l : List ℕ) : Type 0 where
+  pub record MeantIn (cs : List ℕ) (d : ℕ) (l : List ℕ) : Type 0 where
     pub forest : Forest
-    pub form : Subtrees d p l forest
+    pub form : Subtrees d l forest
     pub stands : (x : ℕ) → times x (samplesIn forest) ≡ count (λ c. shows c x) cs
     pub sound : (g : Group) → In g (groupsIn n forest) → In g (groups n r)
     pub whole : (u : ℕ) → u < nodes r → 1 ≤ count (λ c. meets (nodes r) r c u) cs → In (groupAt n r u) (groupsIn n forest)
-    pub paired : lonelyIn forest ≡ []
-    pub several : 2 ≤ length cs → (q : ℕ) → lone q forest ≡ []
 
   -- a list in which the samples below v stand has the group of v
   group-same : (v : ℕ) (xs : List ℕ) → ((x : ℕ) → times x xs ≡ cond (shows v x) 1 0) → groupOf n xs ≡ groupAt n r v
@@ -82,24 +79,22 @@ module _ (n : ℕ) (r : List ℕ) where
 
   -- ---- lists of nodes
 
-  meant-only : (c d p : ℕ) (l : List ℕ) → Meant c d p l → MeantIn (c ∷ []) d p l
-  unfolding samplesIn groupsIn lonelyIn
-  meant-only c d p l h = record {
+  meant-only : (c d : ℕ) (l : List ℕ) → Meant c d l → MeantIn (c ∷ []) d l
+  unfolding samplesIn groupsIn
+  meant-only c d l h = record {
     forest = only (h .tree);
-    form = Subtrees.one d p l (h .tree) (h .form);
+    form = Subtrees.one d l (h .tree) (h .form);
     stands = λ x. h .stands x ∙ sym (count-one (λ y. shows y x) c);
     sound = h .sound;
     whole = λ u k e. h .whole u k (found-one (λ y. meets (nodes r) r y u) c e);
-    paired = h .paired;
-    several = λ e. absurd (omega arith);
   }
 
-  meant-next : (cs : List ℕ) (c d p : ℕ) (l k : List ℕ) → MeantIn cs d p l → Meant c d (suc (p + length l)) k
-      → MeantIn (cs ++ (c ∷ [])) d p (l ++ (commaByte ∷ k))
-  unfolding samplesIn groupsIn lonelyIn lone
-  meant-next cs c d p l k h g = record {
+  meant-next : (cs : List ℕ) (c d : ℕ) (l k : List ℕ) → MeantIn cs d l → Meant c d k
+      → MeantIn (cs ++ (c ∷ [])) d (l ++ (commaByte ∷ k))
+  unfolding samplesIn groupsIn
+  meant-next cs c d l k h g = record {
     forest = more (h .forest) (g .tree);
-    form = Subtrees.parted d p (l ++ (commaByte ∷ k)) l k (h .forest) (g .tree) refl (h .form) (g .form);
+    form = Subtrees.parted d (l ++ (commaByte ∷ k)) l k (h .forest) (g .tree) refl (h .form) (g .form);
     stands = λ x. weigh-append (λ y. 1) (eqb x) (samplesIn (h .forest)) (samples (g .tree))
         ∙ (let z : times x (samplesIn (h .forest)) + times x (samples (g .tree)) ≡ count (λ y. shows y x) cs + count (λ y. shows y x)
         (c ∷ []) = omega (arith, h .stands x, g .stands x, count-one (λ y. shows y x) c) in z)
@@ -111,29 +106,27 @@ module _ (n : ℕ) (r : List ℕ) where
         (count (λ y. meets (nodes r) r y u) cs) (count (λ y. meets (nodes r) r y u) (c ∷ []))
         (h .whole u j) (λ i. g .whole u j (found-one (λ y. meets (nodes r) r y u) c i))
         (omega (arith, weigh-append (λ y. 1) (λ y. meets (nodes r) r y u) cs (c ∷ [])));
-    paired = rw (h .paired, g .paired) refl;
-    several = λ e q. refl;
   }
     where
       one-of : (a b : Bool) (i j : ℕ) → (1 ≤ i → a ≡ true) → (1 ≤ j → b ≡ true) → 1 ≤ i + j → a || b ≡ true
       one-of a b zero j f e s = or-r a b (e (omega arith))
       one-of a b (suc i) j f e s = or-l a b (f (omega arith))
 
-  meant-more : (f : ℕ → List ℕ) (cs done : List ℕ) (d p : ℕ) (l : List ℕ) → MeantIn done d p l
-      → ((c : ℕ) → List·Memᴰ c cs → (q : ℕ) → Meant c d q (f c)) → MeantIn (done ++ cs) d p (l ++ commas f cs)
+  meant-more : (f : ℕ → List ℕ) (cs done : List ℕ) (d : ℕ) (l : List ℕ) → MeantIn done d l
+      → ((c : ℕ) → List·Memᴰ c cs → Meant c d (f c)) → MeantIn (done ++ cs) d (l ++ commas f cs)
   unfolding commas
-  meant-more f [] done d p l h g = rw (append-nil done, append-nil l) h
-  meant-more f (c ∷ cs) done d p l h g =
-      subst (λ (z : List ℕ). MeantIn z d p (l ++ (commaByte ∷ (f c ++ commas f cs)))) (append-snoc done c cs)
-      (subst (λ (z : List ℕ). MeantIn ((done ++ (c ∷ [])) ++ cs) d p z) (append-assoc l (commaByte ∷ f c) (commas f cs))
-      (meant-more f cs (done ++ (c ∷ [])) d p (l ++ (commaByte ∷ f c))
-      (meant-next done c d p l (f c) h (g c (List·Memᴰ·head refl) (suc (p + length l)))) (λ e m. g e (List·Memᴰ·tail m))))
+  meant-more f [] done d l h g = rw (append-nil done, append-nil l) h
+  meant-more f (c ∷ cs) done d l h g =
+      subst (λ (z : List ℕ). MeantIn z d (l ++ (commaByte ∷ (f c ++ commas f cs)))) (append-snoc done c cs)
+      (subst (λ (z : List ℕ). MeantIn ((done ++ (c ∷ [])) ++ cs) d z) (append-assoc l (commaByte ∷ f c) (commas f cs))
+      (meant-more f cs (done ++ (c ∷ [])) d (l ++ (commaByte ∷ f c))
+      (meant-next done c d l (f c) h (g c (List·Memᴰ·head refl))) (λ e m. g e (List·Memᴰ·tail m))))
 
-  meant-list : (f : ℕ → List ℕ) (cs : List ℕ) (d p : ℕ) → 1 ≤ length cs → ((c : ℕ) → List·Memᴰ c cs → (q : ℕ) → Meant c d q (f c))
-      → MeantIn cs d p (listed f cs)
+  meant-list : (f : ℕ → List ℕ) (cs : List ℕ) (d : ℕ) → 1 ≤ length cs → ((c : ℕ) → List·Memᴰ c cs → Meant c d (f c))
+      → MeantIn cs d (listed f cs)
   unfolding listed
-  meant-list f [] d p h g = absurd (omega arith)
-  meant-list f (c ∷ cs) d p h g = meant-more f cs (c ∷ []) d p (f c) (meant-only c d p (f c) (g c (List·Memᴰ·head refl) p))
+  meant-list f [] d h g = absurd (omega arith)
+  meant-list f (c ∷ cs) d h g = meant-more f cs (c ∷ []) d (f c) (meant-only c d (f c) (g c (List·Memᴰ·head refl)))
       (λ e m. g e (List·Memᴰ·tail m))
 
 no-length : Length []
@@ -152,18 +145,17 @@ module _ (n : ℕ) (r : List ℕ) (ok : Valid n r) where
   unfolding weigh
   stands-leaf s x h = add-zero (cond (eqb x s) 1 0) ∙ ap (λ (b : Bool). cond b 1 0) (shows-leaf s x h)
 
-  meant-leaf : (s d p : ℕ) → s < n → Meant n r s d p (decimal s)
-  unfolding samples groupsOf lonely
-  meant-leaf s d p h =
+  meant-leaf : (s d : ℕ) → s < n → Meant n r s d (decimal s)
+  unfolding samples groupsOf
+  meant-leaf s d h =
       let e = group-same n r s (s ∷ []) (λ x. stands-leaf s x h) in record {
         tree = leaf s;
-        form = Subtree.a-sample d p (decimal s) [] (decimal s) [] s (sym (append-nil (decimal s))) none
+        form = Subtree.a-sample d (decimal s) [] (decimal s) [] s (sym (append-nil (decimal s))) none
             (decimal-sample s (omega (arith, ok .most))) no-length;
         stands = λ x. stands-leaf s x h;
         sound = λ g m. ⊎-elim (λ q. subst (λ (z : Group). In z (groups n r)) (sym (q ∙ e)) (groups-in n r s (omega (arith, ok .low))))
             (λ q. absurd (in-none g q)) (in-cases g (groupOf n (s ∷ [])) [] m);
         whole = λ u k a. rw (no-leaf-above n r (valid-rooted n r ok) s u h k a, e) (in-head (groupAt n r s) []);
-        paired = refl;
       }
 
   -- ---- a pair of brackets
@@ -176,21 +168,19 @@ module _ (n : ℕ) (r : List ℕ) (ok : Valid n r) where
           ∙ child-once n r ok v x h (omega (arith, ok .low)) (λ q. omega arith))
       go (inr e) = rw e (weigh-none (λ c. 1) (λ c. false) (childrenOf n r v) (λ c m. refl))
 
-  meant-pair : (v d p : ℕ) (l s : List ℕ) (μ : Mark) → n ≤ v → v < nodes r → MeantIn n r (childrenOf n r v) d (suc p) l → Support s μ
-      → Meant n r v (suc d) p (openingByte ∷ (l ++ (closingByte ∷ s)))
-  unfolding samples groupsOf lonely
-  meant-pair v d p l s μ a h k z =
+  meant-pair : (v d : ℕ) (l s : List ℕ) (μ : Mark) → n ≤ v → v < nodes r → MeantIn n r (childrenOf n r v) d l → Support s μ
+      → Meant n r v (suc d) (openingByte ∷ (l ++ (closingByte ∷ s)))
+  unfolding samples groupsOf
+  meant-pair v d l s μ a h k z =
       let st : (x : ℕ) → times x (samplesIn (k .forest)) ≡ cond (shows n r v x) 1 0 = λ x. k .stands x ∙ shows-count v x a h in
       let e = group-same n r v (samplesIn (k .forest)) st in record {
-        tree = pair p (k .forest) μ;
-        form = Subtree.a-pair d p p (openingByte ∷ (l ++ (closingByte ∷ s))) [] l s [] (k .forest) μ (rw (append-nil s) refl)
-            (sym (add-zero p)) none
+        tree = pair (k .forest) μ;
+        form = Subtree.a-pair d (openingByte ∷ (l ++ (closingByte ∷ s))) [] l s [] (k .forest) μ (rw (append-nil s) refl) none
             (k .form) z no-length;
         stands = st;
         sound = λ g m. ⊎-elim (λ q. subst (λ (z : Group). In z (groups n r)) (sym (q ∙ e)) (groups-in n r v h)) (k .sound g)
             (in-cases g (groupOf n (samplesIn (k .forest))) (groupsIn n (k .forest)) m);
         whole = λ u j b. below u j b e (decide (eqb u v));
-        paired = rw (k .paired, k .several (omega (arith, length-child n r ok v, ok .two v a h)) p) refl;
       }
     where
       below : (u : ℕ) → u < nodes r → Above r v u → groupOf n (samplesIn (k .forest)) ≡ groupAt n r v → (eqb u v ≡ true) ⊎ (eqb u v ≡ false)
@@ -219,23 +209,23 @@ module _ (n : ℕ) (r : List ℕ) (ok : Valid n r) where
         go true = (unmarked, Support.unsupported [] none)
         go false = word-support w v
 
-    pub meant : (f d v p : ℕ) → v < nodes r → pairsAt n r ok v ≤ f → pairsAt n r ok v ≤ d → Meant n r v d p (nodeText f n r w v)
+    pub meant : (f d v : ℕ) → v < nodes r → pairsAt n r ok v ≤ f → pairsAt n r ok v ≤ d → Meant n r v d (nodeText f n r w v)
     unfolding nodeText
-    meant zero d v p h a b = meant-leaf v d p (⊎-elim (ltb-true v n)
+    meant zero d v h a b = meant-leaf v d (⊎-elim (ltb-true v n)
         (λ e. absurd (omega (arith, pairs-some n r ok v (ltb-false v n e) h))) (decide (ltb v n)))
-    meant (suc f) d v p h a b = go d b (decide (ltb v n)) (λ c e q k l m. meant f e c q k l m)
+    meant (suc f) d v h a b = go d b (decide (ltb v n)) (λ c e. meant f e c)
       where
         go : (d : ℕ) → pairsAt n r ok v ≤ d → (ltb v n ≡ true) ⊎ (ltb v n ≡ false)
-            → ((c e q : ℕ) → c < nodes r → pairsAt n r ok c ≤ f → pairsAt n r ok c ≤ e → Meant n r c e q (nodeText f n r w c))
-            → Meant n r v d p (cond (ltb v n) (decimal v) (openingByte ∷
+            → ((c e : ℕ) → c < nodes r → pairsAt n r ok c ≤ f → pairsAt n r ok c ≤ e → Meant n r c e (nodeText f n r w c))
+            → Meant n r v d (cond (ltb v n) (decimal v) (openingByte ∷
             (listed (nodeText f n r w) (childrenOf n r v) ++ (closingByte ∷ markText r w v))))
-        go d b (inl e) g = rw e (meant-leaf v d p (ltb-true v n e))
+        go d b (inl e) g = rw e (meant-leaf v d (ltb-true v n e))
         go zero b (inr e) g = absurd (omega (arith, pairs-some n r ok v (ltb-false v n e) h))
         go (suc d) b (inr e) g =
             let i = ltb-false v n e in
             let t = mark-support v in
-            rw e (meant-pair v d p (listed (nodeText f n r w) (childrenOf n r v)) (markText r w v) (t .0) i h
-            (meant-list n r (nodeText f n r w) (childrenOf n r v) d (suc p) (omega (arith, length-child n r ok v, ok .two v i h))
-            (λ c m q. let k = in-child n r ok v c m in let j = pairs-fall n r ok c v (k .0) i h (k .1) in
-            g c d q (k .0) (omega arith) (omega arith)))
+            rw e (meant-pair v d (listed (nodeText f n r w) (childrenOf n r v)) (markText r w v) (t .0) i h
+            (meant-list n r (nodeText f n r w) (childrenOf n r v) d (omega (arith, length-child n r ok v, ok .child v i h))
+            (λ c m. let k = in-child n r ok v c m in let j = pairs-fall n r ok c v (k .0) i h (k .1) in
+            g c d (k .0) (omega arith) (omega arith)))
             (t .1))

@@ -38,7 +38,7 @@ fn branching_counted(n: usize, row: &[u16], counts: &Table) -> Answer
     Answer::Accepted
 }
 
-// Check 10: the lowest inner node with one child or none (RULES 7.5).
+// Check 10: the lowest inner node with no child at all (RULES 7.5).
 // For adding, renumbering and comparing, which have room for a table: linear. Judging uses the form of `judge`.
 pub(crate) fn branching(n: usize, row: &[u16]) -> Answer
     requires { ⌜ LaidOut (now row) ⌝ }

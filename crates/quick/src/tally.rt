@@ -10,7 +10,7 @@ use passes::TABLE;
 use passes::Table;
 
 // One more at k.
-fn raise(counts: &mut Table, k: usize)
+pub fn raise(counts: &mut Table, k: usize)
     requires { ⌜ (k < tableWords) × (length (now counts) ≡ tableWords) × (getD (now counts) k 0 ≤ tableWords) ⌝ }
     ensures { λ _. ⌜ now (counts .exit) ≡ set (now (counts .entry)) k (getD (now (counts .entry)) k 0 + 1) ⌝ }
 {
@@ -18,7 +18,7 @@ fn raise(counts: &mut Table, k: usize)
 }
 
 // Counts the words from a to below b, each at its own entry; a word that has none, as the root's mark, is passed over.
-pub fn tally(words: &[u16], a: usize, b: usize, counts: &mut Table)
+pub(crate) fn tally(words: &[u16], a: usize, b: usize, counts: &mut Table)
     requires { ⌜ (b ≤ length (now words)) × (b ≤ tableWords) × (now counts ≡ zeros tableWords) ⌝ }
     ensures counted { λ _. ⌜ Tabled (standing (now (words .entry)) a b) 0 tableWords (now (counts .exit)) ⌝ }
     ensures whole { λ _. ⌜ length (now (counts .exit)) ≡ tableWords ⌝ }

@@ -19,7 +19,7 @@ use denote.Triple.Walked.{Stays, AllGo, gave-ref, goes-gave-ref}
 
 -- the lengths of `lay`'s `Kept`, `Row` and `Marks`
 abbrev keptWords : ℕ
-keptWords = 4
+keptWords = 3
 
 abbrev rowWords : ℕ
 rowWords = 1024

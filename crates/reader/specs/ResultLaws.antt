@@ -1,4 +1,4 @@
--- What a reading has kept decides the checks 18 and 10, and what it has laid is the row. Assumes nothing.
+-- What a reading has kept decides check 18, and what it has laid is the row. Assumes nothing.
 use Prim.Native.Nat.{ℕ, zero, suc, _+_, _≤_, _<_}
 use mathlib.Core.Path.{_≡_, refl, sym, ap, subst, _∙_}
 use mathlib.Core.List.{List, [], _∷_}
@@ -23,13 +23,13 @@ use Rattle.judge.specs.declared.Answer.the-variants.{Accepted, Refused}
 use Rattle.newick.specs.Walk.{Parse, parsed}
 use Rattle.newick.specs.Walk.Parse.{reads, stops}
 use Rattle.newick.specs.Tree.{Tree}
-use Rattle.newick.specs.Meaning.{samples, lonely}
-use Rattle.newick.specs.ReadCalls.{treeIn, check17, check18, checkLone, textChecks, readChecks, reading, rowIn}
+use Rattle.newick.specs.Meaning.{samples}
+use Rattle.newick.specs.ReadCalls.{treeIn, check17, check18, textChecks, readChecks, reading, rowIn}
 use Rattle.newick.specs.Grammar.{sampleBound}
 use Rattle.lay.specs.Laying.{Link, sets, grow, tally, least, laidRow}
 use Rattle.lay.specs.LaidRow.{laid-valid}
-use Rattle.lay.specs.Faults.{orAt, belowPlace, due, badMark, markCheck, loneCheck}
-use Rattle.lay.specs.FaultLaws.{place18, placeLone, laid-row-in}
+use Rattle.lay.specs.Faults.{orAt, belowPlace, due, badMark, markCheck}
+use Rattle.lay.specs.FaultLaws.{place18, laid-row-in}
 use Rattle.newick.specs.FaultLaws.{stands-exactly}
 use Rattle.lay.specs.Keeping.{keptIn}
 use Rattle.reader.specs.Steps.{ReadyAt, Told}
@@ -88,7 +88,7 @@ or-miss k b x p q v e h f = subst (λ (z : Place). v ≡ asked (record { number 
 
 -- ---- a text that has been read
 
-pub unread-ready : (n : ℕ) (l kept row marks : List ℕ) → 1 ≤ n → n ≤ mostSamples → Unread n l kept row marks
+pub unread-ready : (n : ℕ) (l kept row marks : List ℕ) → 1 ≤ n → n ≤ mostSamples → Unread n kept row marks
     → ReadyAt l 0 kept row marks
 unread-ready n l kept row marks h k F =
     let e : keptIn kept .next ≡ n = ap (λ (w : List ℕ). getD w 1 0) (F .numbers) in
@@ -107,7 +107,7 @@ pub lies-form : (l : List ℕ) (n q : ℕ) (row : List ℕ) → parsed l ≡ sto
 unfolding textChecks
 lies-form l n q row e = rw e (chain-stop (check17 (stops q)) _ accepted 17 q refl)
 
-module _ (l : List ℕ) (n : ℕ) (kept row marks kept₁ row₁ marks₁ : List ℕ) (most : n ≤ mostSamples) (F : Unread n l kept row marks)
+module _ (l : List ℕ) (n : ℕ) (kept row marks kept₁ row₁ marks₁ : List ℕ) (most : n ≤ mostSamples) (F : Unread n kept row marks)
     (T : Told l kept row marks kept₁ row₁ marks₁) where
   abbrev t : Tree
   t = T .tree
@@ -115,60 +115,45 @@ module _ (l : List ℕ) (n : ℕ) (kept row marks kept₁ row₁ marks₁ : List
   abbrev asked18 : Verdict
   asked18 = asked (markCheck n marks₁ (keptIn kept₁ .large))
 
-  abbrev asked10 : Verdict
-  asked10 = asked (loneCheck (length l) (keptIn kept₁ .lone))
-
   as18 : asked18 ≡ asked (check18 n t)
   as18 = ap (λ (p : Place). asked (record { number = 18; fault = p }))
       (ap (λ (b : ℕ). orAt (first (badMark n marks₁) (range 0 mostSamples)) (belowPlace sampleBound b))
       (T .lays .large ∙ ap (λ (w : List ℕ). least mostSamples (samples t) (getD w 2 0)) (F .numbers))
       ∙ sym (place18 n most t marks₁ (T .lays .stands ∙ ap (tally (samples t)) (F .tallies)) (T .lays .below)))
 
-  as10 : asked10 ≡ asked (checkLone (length l) t)
-  as10 = ap (λ (p : Place). asked (record { number = 10; fault = p }))
-      (ap (belowPlace (length l)) (T .lays .lone ∙ ap (λ (w : List ℕ). least 0 (lonely t) (getD w 3 0)) (F .numbers))
-      ∙ sym (placeLone (length l) t))
-
-  past17 : checksOf n l ⊳ accepted ≡ (check18 n t ∷ checkLone (length l) t ∷ []) ⊳ accepted
+  past17 : checksOf n l ⊳ accepted ≡ (check18 n t ∷ []) ⊳ accepted
   unfolding textChecks
-  past17 = rw (T .read) (chain-go (check17 (reads t)) (check18 n t ∷ checkLone (length l) t ∷ []) accepted refl)
+  past17 = rw (T .read) (chain-go (check17 (reads t)) (check18 n t ∷ []) accepted refl)
 
   pub lies-18 : (k p : ℕ) (row₂ : List ℕ) → refused k p ≡ asked18 → Lies l n (Refused k p) row₂
-  lies-18 k p row₂ e = past17 ∙ chain-stop (check18 n t) (checkLone (length l) t ∷ []) accepted k p (sym (e ∙ as18))
+  lies-18 k p row₂ e = past17 ∙ chain-stop (check18 n t) [] accepted k p (sym (e ∙ as18))
 
-  module _ (e : accepted ≡ asked18) where
-    past18 : checksOf n l ⊳ accepted ≡ (checkLone (length l) t ∷ []) ⊳ accepted
-    past18 = past17 ∙ chain-go (check18 n t) (checkLone (length l) t ∷ []) accepted (sym (e ∙ as18))
+  -- what is laid in the row: its links, its number of nodes and its mark
+  laid-front : (row₂ : List ℕ) → row₂ ≡ set (set row₁ 0 (keptIn kept₁ .next)) (keptIn kept₁ .root + 1) rootMark
+      → take (rowWords n) row₂ ≡ laidRow n (grow t n)
+  unfolding laidRow
+  laid-front row₂ h =
+      let g = grow t n in
+      let k : keptIn kept .next ≡ n = ap (λ (w : List ℕ). getD w 1 0) (F .numbers) in
+      let a : keptIn kept₁ .next ≡ g .next = T .lays .next ∙ ap (λ (i : ℕ). grow t i .next) k in
+      let b : keptIn kept₁ .root + 1 ≡ suc (g .root) =
+      ap (λ (i : ℕ). i + 1) (T .lays .root ∙ ap (λ (i : ℕ). grow t i .root) k) ∙ add-one (g .root) in
+      let z : take (rowWords n) row₁ ≡ sets (g .links) (zeros (rowWords n)) =
+      ap (take (rowWords n)) (T .lays .links ∙ ap (λ (i : ℕ). sets (grow t i .links) row) k ∙ ap (sets (g .links)) (F .words))
+      ∙ take-sets (rowWords n) (g .links) (zeros tableWords)
+      ∙ ap (sets (g .links)) (take-zeros (rowWords n) tableWords (omega (arith, most))) in
+      ap (take (rowWords n)) h ∙ take-set (rowWords n) (set row₁ 0 (keptIn kept₁ .next)) (keptIn kept₁ .root + 1) rootMark
+      ∙ ap (λ (w : List ℕ). set w (keptIn kept₁ .root + 1) rootMark)
+      (take-set (rowWords n) row₁ 0 (keptIn kept₁ .next) ∙ ap (λ (w : List ℕ). set w 0 (keptIn kept₁ .next)) z
+      ∙ ap (set (sets (g .links) (zeros (rowWords n))) 0) a)
+      ∙ ap (λ (i : ℕ). set (set (sets (g .links) (zeros (rowWords n))) 0 (g .next)) i rootMark) b
 
-    pub lies-10 : (k p : ℕ) (row₂ : List ℕ) → refused k p ≡ asked10 → Lies l n (Refused k p) row₂
-    lies-10 k p row₂ f = past18 ∙ chain-stop (checkLone (length l) t) [] accepted k p (sym (f ∙ as10))
-
-    -- what is laid in the row: its links, its number of nodes and its mark
-    laid-front : (row₂ : List ℕ) → row₂ ≡ set (set row₁ 0 (keptIn kept₁ .next)) (keptIn kept₁ .root + 1) rootMark
-        → take (rowWords n) row₂ ≡ laidRow n (grow t n)
-    unfolding laidRow
-    laid-front row₂ h =
-        let g = grow t n in
-        let k : keptIn kept .next ≡ n = ap (λ (w : List ℕ). getD w 1 0) (F .numbers) in
-        let a : keptIn kept₁ .next ≡ g .next = T .lays .next ∙ ap (λ (i : ℕ). grow t i .next) k in
-        let b : keptIn kept₁ .root + 1 ≡ suc (g .root) =
-        ap (λ (i : ℕ). i + 1) (T .lays .root ∙ ap (λ (i : ℕ). grow t i .root) k) ∙ add-one (g .root) in
-        let z : take (rowWords n) row₁ ≡ sets (g .links) (zeros (rowWords n)) =
-        ap (take (rowWords n)) (T .lays .links ∙ ap (λ (i : ℕ). sets (grow t i .links) row) k ∙ ap (sets (g .links)) (F .words))
-        ∙ take-sets (rowWords n) (g .links) (zeros tableWords)
-        ∙ ap (sets (g .links)) (take-zeros (rowWords n) tableWords (omega (arith, most))) in
-        ap (take (rowWords n)) h ∙ take-set (rowWords n) (set row₁ 0 (keptIn kept₁ .next)) (keptIn kept₁ .root + 1) rootMark
-        ∙ ap (λ (w : List ℕ). set w (keptIn kept₁ .root + 1) rootMark)
-        (take-set (rowWords n) row₁ 0 (keptIn kept₁ .next) ∙ ap (λ (w : List ℕ). set w 0 (keptIn kept₁ .next)) z
-        ∙ ap (set (sets (g .links) (zeros (rowWords n))) 0) a)
-        ∙ ap (λ (i : ℕ). set (set (sets (g .links) (zeros (rowWords n))) 0 (g .next)) i rootMark) b
-
-    pub lies-accepted : (row₂ : List ℕ) → accepted ≡ asked10
-        → row₂ ≡ set (set row₁ 0 (keptIn kept₁ .next)) (keptIn kept₁ .root + 1) rootMark → Lies l n Accepted row₂
-    lies-accepted row₂ f h = (
-      past18 ∙ chain-go (checkLone (length l) t) [] accepted (sym (f ∙ as10)) ∙ chain-end accepted,
-      laid-front row₂ h ∙ ap (λ (o : Parse). laidRow n (grow (treeIn o) n)) (sym (T .read)),
-    )
+  pub lies-accepted : accepted ≡ asked18 → (row₂ : List ℕ) → row₂ ≡ set (set row₁ 0 (keptIn kept₁ .next)) (keptIn kept₁ .root + 1) rootMark
+      → Lies l n Accepted row₂
+  lies-accepted e row₂ h = (
+    past17 ∙ chain-go (check18 n t) [] accepted (sym (e ∙ as18)) ∙ chain-end accepted,
+    laid-front row₂ h ∙ ap (λ (o : Parse). laidRow n (grow (treeIn o) n)) (sym (T .read)),
+  )
 
 -- ---- the answer, and what is left in `out`
 
@@ -196,10 +181,10 @@ module _ (l : List ℕ) (n : ℕ) (row : List ℕ) (h : fewestSamples ≤ n) (k 
 
 module _ (n : ℕ) (l out : List ℕ) where
   abbrev cs : List Check
-  cs = readChecks n (parsed l) (length l) out
+  cs = readChecks n (parsed l) out
 
   abbrev rest : List Check
-  rest = textChecks n (parsed l) (length l)
+  rest = textChecks n (parsed l)
 
   refused-by : (k p : ℕ) → cs ⊳ accepted ≡ refused k p → (refused k p ≡ reading n l out .verdict) × (out ≡ reading n l out .words)
   unfolding reading

@@ -3,7 +3,7 @@ use Prim.Native.Nat.{ℕ}
 use mathlib.Core.Path.{_≡_}
 use mathlib.Core.Bool.{cond}
 use mathlib.Core.List.{List, [], _∷_}
-use lib.ListN.{length, take}
+use lib.ListN.{take}
 use Rattle.trees.specs.Lists.{zeros}
 use Rattle.trees.specs.Checks.{Check, accepted, refused, _⊳_, mostSamples, rowWords}
 use Rattle.trees.specs.Tables.{tableWords}
@@ -16,15 +16,15 @@ use Rattle.newick.specs.ReadCalls.{treeIn, textChecks, rowIn}
 use Rattle.newick.specs.Grammar.{sampleBound}
 use Rattle.lay.specs.Laying.{grow, laidRow}
 
--- what a reading over n samples starts with: no node, no sample too large, no pair with one subtree, no link, no mark
-pub record Unread (n : ℕ) (l kept row marks : List ℕ) : Type 0 where
-  pub numbers : kept ≡ 0 ∷ n ∷ sampleBound ∷ length l ∷ []
+-- what a reading over n samples starts with: no node, no sample too large, no link, no mark
+pub record Unread (n : ℕ) (kept row marks : List ℕ) : Type 0 where
+  pub numbers : kept ≡ 0 ∷ n ∷ sampleBound ∷ []
   pub words : row ≡ zeros tableWords
   pub tallies : marks ≡ zeros mostSamples
 
--- the checks 17, 18 and 10 of a text
+-- the checks 17 and 18 of a text
 abbrev pub checksOf : ℕ → List ℕ → List Check
-checksOf n l = textChecks n (parsed l) (length l)
+checksOf n l = textChecks n (parsed l)
 
 -- the tree of a text
 abbrev pub treeOf : List ℕ → Tree

@@ -57,7 +57,7 @@ module _ (l : List ℕ) (e : ℕ) (t : Tree) where
   unfolding step final shut next
   top-stops n f =
       from-stops l e (measured top t)
-      (λ w. kind-all (λ c. step (measured top t) e c ≡ stuck) (getD l e 0)
+      (λ w. kind-all (λ c. step (measured top t) c ≡ stuck) (getD l e 0)
       (λ z. clash z (n w)) (λ z. refl) (λ z. refl) (λ z. refl) (λ z. refl) (λ z. absurd (f z)) (λ z. refl) (λ z. refl) refl)
       refl
 
@@ -68,7 +68,7 @@ module _ (l : List ℕ) (e : ℕ) (t : Tree) where
     to-done : from l e (measured top t) ≡ from l f (done t)
     unfolding step kindOf last
     to-done = from-to l e (measured top t) (done t) (look-within l e semicolonByte b (omega arith)) (rw b)
-        ∙ blanks-on l (e + 1) f (done t) (λ q. refl) refl
+        ∙ blanks-on l (e + 1) f (done t) refl refl
 
     f-within : f ≤ length l
     f-within = past-within isBlank l (e + 1) (omega (arith, look-within l e semicolonByte b (omega arith)))
@@ -77,7 +77,7 @@ module _ (l : List ℕ) (e : ℕ) (t : Tree) where
     unfolding step
     top-more n =
         let h : f < length l = omega (arith, f-within, n) in
-        to-done ∙ from-stuck l f (done t) h (kind-all (λ c. step (done t) f c ≡ stuck) (getD l f 0)
+        to-done ∙ from-stuck l f (done t) h (kind-all (λ c. step (done t) c ≡ stuck) (getD l f 0)
         (λ z. clash z (past-next isBlank l (e + 1) f refl h)) (λ z. refl) (λ z. refl) (λ z. refl) (λ z. refl) (λ z. refl) (λ z. refl)
         (λ z. refl) refl)
 

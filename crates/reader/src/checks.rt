@@ -1,9 +1,9 @@
-// Checks 18 and 10 of a text (RULES 14), from what its reading has kept.
+// Check 18 of a text (RULES 14), from what its reading has kept.
 ghost use mathlib.Core.Path.{_≡_};
 ghost use Rattle.trees.specs.Lists.{range, first};
 ghost use Rattle.trees.specs.Checks.{asked, mostSamples};
 ghost use Rattle.judge.specs.Verdicts.{verdict};
-ghost use Rattle.lay.specs.Faults.{belowPlace, due, badMark, markCheck, loneCheck};
+ghost use Rattle.lay.specs.Faults.{belowPlace, due, badMark, markCheck};
 use judge::Answer;
 use judge::Refusal;
 use lay::MARKS;
@@ -44,16 +44,6 @@ pub(crate) fn check_samples(n: usize, marks: &Marks, large: usize) -> Answer
     }
     if large < NOTHING_LARGE {
         return Answer::Refused(Refusal::LEAVES, large);
-    }
-    Answer::Accepted
-}
-
-// Check 10: a pair with one subtree in a text of `size` bytes, at the lowest opening byte of one.
-pub(crate) fn check_lone(lone: usize, size: usize) -> Answer
-    ensures { λ r. ⌜ verdict r ≡ asked (loneCheck size lone) ⌝ }
-{
-    if lone < size {
-        return Answer::Refused(Refusal::CHILDREN, lone);
     }
     Answer::Accepted
 }

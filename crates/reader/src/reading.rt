@@ -12,7 +12,6 @@ ghost use Rattle.newick.specs.ReadCalls.{reading};
 ghost use Rattle.newick.specs.Grammar.{sampleBound};
 ghost use Rattle.lay.specs.Keeping.{keptIn};
 ghost use Rattle.reader.specs.Results.{Unread, Lies, checksOf, leftIn};
-use crate::checks::check_lone;
 use crate::checks::check_samples;
 use crate::held::whole;
 use judge::Answer;
@@ -20,7 +19,6 @@ use judge::ROOT_MARK;
 use judge::Refusal;
 use lay::Kept;
 use lay::LARGE;
-use lay::LONE;
 use lay::MARKS;
 use lay::Marks;
 use lay::NEXT;
@@ -53,9 +51,9 @@ fn finish(kept: &Kept, row: &mut Row)
     put(kept[ROOT] + 1, ROOT_MARK as u16, row);
 }
 
-// Checks 17, 18 and 10; a text that passes is laid into the row.
+// Checks 17 and 18; a text that passes is laid into the row.
 fn lay_text(n: usize, text: &[u8], kept: &mut Kept, row: &mut Row, marks: &mut Marks) -> Answer
-    requires { ⌜ (1 ≤ n) × (n ≤ mostSamples) × Unread n (now text) (now kept) (now row) (now marks) ⌝ }
+    requires { ⌜ (1 ≤ n) × (n ≤ mostSamples) × Unread n (now kept) (now row) (now marks) ⌝ }
     ensures { λ r. ⌜ Lies (now (text .entry)) n r (now (row .exit)) ⌝ }
 {
     let p = whole(text, kept, row, marks);
@@ -63,10 +61,6 @@ fn lay_text(n: usize, text: &[u8], kept: &mut Kept, row: &mut Row, marks: &mut M
         return Answer::Refused(Refusal::FORM, q);
     }
     let a = check_samples(n, marks, kept[LARGE]);
-    let Answer::Accepted = a else {
-        return a;
-    };
-    let a = check_lone(kept[LONE], text.len());
     let Answer::Accepted = a else {
         return a;
     };
@@ -93,7 +87,7 @@ fn read_in(
     marks: &mut Marks,
 ) -> Answer
     requires { ⌜ (fewestSamples ≤ n) × (n ≤ mostSamples) × (length (now out) ≡ rowWords n)
-        × Unread n (now text) (now kept) (now row) (now marks) ⌝ }
+        × Unread n (now kept) (now row) (now marks) ⌝ }
     ensures { λ r. ⌜ verdict r ≡ checksOf n (now (text .entry)) ⊳ accepted ⌝ }
     ensures { λ _. ⌜ now (out .exit) ≡ leftIn n (now (text .entry)) (now (out .entry)) ⌝ }
 {
@@ -111,7 +105,7 @@ fn read_room(n: usize, text: &[u8], out: &mut [u16]) -> Answer
     ensures { λ r. ⌜ verdict r ≡ checksOf n (now (text .entry)) ⊳ accepted ⌝ }
     ensures { λ _. ⌜ now (out .exit) ≡ leftIn n (now (text .entry)) (now (out .entry)) ⌝ }
 {
-    let mut kept: Kept = [0, n, NOTHING_LARGE, text.len()];
+    let mut kept: Kept = [0, n, NOTHING_LARGE];
     let mut row: Row = [0; ROW];
     let mut marks: Marks = [0; MARKS];
     read_in(n, text, out, &mut kept, &mut row, &mut marks)

@@ -99,11 +99,11 @@ module _ (t : ℕ → Bool) (l : List ℕ) (p : ℕ) where
 -- ---- the reading
 
 -- one byte of it
-pub from-to : (l : List ℕ) (p : ℕ) (s s′ : State) → p < length l → step s p (kindOf (getD l p 0)) ≡ to s′ → from l p s ≡ from l (p + 1) s′
+pub from-to : (l : List ℕ) (p : ℕ) (s s′ : State) → p < length l → step s (kindOf (getD l p 0)) ≡ to s′ → from l p s ≡ from l (p + 1) s′
 unfolding walk
 from-to l p s s′ h e = rw (drop-cons l p 0 h, e, add-one p)
 
-pub from-stuck : (l : List ℕ) (p : ℕ) (s : State) → p < length l → step s p (kindOf (getD l p 0)) ≡ stuck → from l p s ≡ stops p
+pub from-stuck : (l : List ℕ) (p : ℕ) (s : State) → p < length l → step s (kindOf (getD l p 0)) ≡ stuck → from l p s ≡ stops p
 unfolding walk
 from-stuck l p s h e = rw (drop-cons l p 0 h, e)
 
@@ -112,20 +112,20 @@ unfolding walk
 from-end l p s h = rw (drop-of-length-le l h)
 
 -- two states that have the same move at the byte of a place go on alike
-pub from-same : (l : List ℕ) (p : ℕ) (s s′ : State) → (p < length l → step s p (kindOf (getD l p 0)) ≡ step s′ p (kindOf (getD l p 0)))
+pub from-same : (l : List ℕ) (p : ℕ) (s s′ : State) → (p < length l → step s (kindOf (getD l p 0)) ≡ step s′ (kindOf (getD l p 0)))
     → final s p ≡ final s′ p → from l p s ≡ from l p s′
 unfolding walk
 from-same l p s s′ f e = ⊎-elim (λ q. let h = ltb-true p (length l) q in rw (drop-cons l p 0 h, f h))
     (λ q. let h = ltb-false p (length l) q in from-end l p s h ∙ e ∙ sym (from-end l p s′ h)) (decide (ltb p (length l)))
 
 -- a place at which a state has no move
-pub from-stops : (l : List ℕ) (p : ℕ) (s : State) → (p < length l → step s p (kindOf (getD l p 0)) ≡ stuck) → final s p ≡ stops p
+pub from-stops : (l : List ℕ) (p : ℕ) (s : State) → (p < length l → step s (kindOf (getD l p 0)) ≡ stuck) → final s p ≡ stops p
     → from l p s ≡ stops p
 from-stops l p s f e = ⊎-elim (λ q. let h = ltb-true p (length l) q in
     from-stuck l p s h (f h)) (λ q. from-end l p s (ltb-false p (length l) q) ∙ e) (decide (ltb p (length l)))
 
 -- a run of bytes at which a state stays
-walk-run : (t : ℕ → Bool) (s : State) → ((p b : ℕ) → t b ≡ true → step s p (kindOf b) ≡ to s) → (m : List ℕ) (p : ℕ)
+walk-run : (t : ℕ → Bool) (s : State) → ((b : ℕ) → t b ≡ true → step s (kindOf b) ≡ to s) → (m : List ℕ) (p : ℕ)
     → walk s p m ≡ walk s (p + lead t m) (drop (lead t m) m)
 unfolding lead walk
 walk-run t s f [] p = rw (add-zero p)
@@ -133,9 +133,9 @@ walk-run t s f (b ∷ m) p = go (t b) refl (walk-run t s f m (suc p))
   where
     go : (x : Bool) → t b ≡ x → walk s (suc p) m ≡ walk s (suc p + lead t m) (drop (lead t m) m)
         → walk s p (b ∷ m) ≡ walk s (p + oneMore x (lead t m)) (drop (oneMore x (lead t m)) (b ∷ m))
-    go true e h = rw (f p b e, add-suc p (lead t m), sym (suc-add p (lead t m))) h
+    go true e h = rw (f b e, add-suc p (lead t m), sym (suc-add p (lead t m))) h
     go false e h = rw (add-zero p)
 
-pub from-run : (t : ℕ → Bool) (l : List ℕ) (p : ℕ) (s : State) → ((q b : ℕ) → t b ≡ true → step s q (kindOf b) ≡ to s)
+pub from-run : (t : ℕ → Bool) (l : List ℕ) (p : ℕ) (s : State) → ((b : ℕ) → t b ≡ true → step s (kindOf b) ≡ to s)
     → from l p s ≡ from l (past t l p) s
 from-run t l p s f = walk-run t s f (drop p l) p ∙ ap (walk s (past t l p)) (drop-drop (lead t (drop p l)) p l)

@@ -89,12 +89,12 @@ pub record Marked (l : List ℕ) (p e : ℕ) : Type 0 where
   pub within : e ≤ length l
   pub fresh : Fresh l e
   pub mark : Mark
-  pub goes : (k : Stack) (a : ℕ) (f : Forest) → from l p (closed k a f) ≡ from l e (measured k (pair a f mark))
+  pub goes : (k : Stack) (f : Forest) → from l p (closed k f) ≡ from l e (measured k (pair f mark))
 
 -- what follows a closing bracket
 abbrev pub Closes : List ℕ → ℕ → Progress → Type 0
 Closes l p (Reached e) = Marked l p e
-Closes l p (Stopped q) = (k : Stack) (a : ℕ) (f : Forest) → from l p (closed k a f) ≡ stops q
+Closes l p (Stopped q) = (k : Stack) (f : Forest) → from l p (closed k f) ≡ stops q
 
 -- ---- how a subtree starts
 
@@ -111,7 +111,7 @@ pub record Opens (l : List ℕ) (p d a : ℕ) : Type 0 where
   pub later : p ≤ a
   pub within : a < length l
   pub some : 0 < d
-  pub goes : (k : Stack) → depth k + d ≡ mostOpen → from l p (want k) ≡ from l (a + 1) (want (opened k a))
+  pub goes : (k : Stack) → depth k + d ≡ mostOpen → from l p (want k) ≡ from l (a + 1) (want (opened k))
 
 -- no subtree goes on at q
 abbrev pub Stuck : List ℕ → ℕ → ℕ → ℕ → Type 0

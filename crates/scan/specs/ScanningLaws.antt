@@ -112,7 +112,7 @@ followed-by s l p a e h w f g = record {
   later = omega (arith, f);
   within = rw f (past-within isBlank l a w);
   fresh = past-next isBlank l a e f;
-  goes = λ k t. g k t ∙ blanks-on l a e (measured k t) (λ q. refl) f;
+  goes = λ k t. g k t ∙ blanks-on l a e (measured k t) refl f;
 }
 
 -- from an earlier place and state
@@ -134,12 +134,12 @@ module _ (l : List ℕ) (p a : ℕ) (e : a ≡ past isDigit l p) where
   pub fraction-some : (b : ℕ) → (a ≡ p → ⊥) → p ≤ length l → b ≡ past isBlank l a → Follows point l p (Reached b)
   unfolding step
   fraction-some b n h f = followed-by point l p a b (omega (arith, e)) (rw e (past-within isDigit l p h)) f
-      (λ k t. digits-on l p a (point k t) (part k t) (λ q d. refl) (λ q d. refl) e n ∙ part-measured l a k t (past-next isDigit l p a e))
+      (λ k t. digits-on l p a (point k t) (part k t) (λ d. refl) (λ d. refl) e n ∙ part-measured l a k t (past-next isDigit l p a e))
 
 module _ (l : List ℕ) (p a b : ℕ) (e : a ≡ past isBlank l p) (f : b ≡ past isDigit l a) where
   to-number : (k : Stack) (t : Tree) → from l p (measure k t) ≡ from l a (measure k t)
   unfolding step
-  to-number k t = blanks-on l p a (measure k t) (λ q. refl) e
+  to-number k t = blanks-on l p a (measure k t) refl e
 
   -- behind the colon, at place p
   pub length-none : b ≡ a → Follows measure l p (Stopped a)
@@ -151,7 +151,7 @@ module _ (l : List ℕ) (p a b : ℕ) (e : a ≡ past isBlank l p) (f : b ≡ pa
 
     to-whole : (k : Stack) (t : Tree) → from l p (measure k t) ≡ from l b (whole k t)
     unfolding step
-    to-whole k t = to-number k t ∙ digits-on l a b (measure k t) (whole k t) (λ q d. refl) (λ q d. refl) f n
+    to-whole k t = to-number k t ∙ digits-on l a b (measure k t) (whole k t) (λ d. refl) (λ d. refl) f n
 
     pub length-whole : (c : ℕ) → (getD l b 0 ≡ pointByte → ⊥) → c ≡ past isBlank l b → Follows measure l p (Reached c)
     length-whole c g i = followed-by measure l p b c (omega (arith, e, f)) number-within i
@@ -165,7 +165,7 @@ module _ (l : List ℕ) (p a b : ℕ) (e : a ≡ past isBlank l p) (f : b ≡ pa
 module _ (l : List ℕ) (p a : ℕ) (e : a ≡ past isBlank l p) where
   to-tail : (k : Stack) (t : Tree) → from l p (ended k t) ≡ from l a (ended k t)
   unfolding step
-  to-tail k t = blanks-on l p a (ended k t) (λ q. refl) e
+  to-tail k t = blanks-on l p a (ended k t) refl e
 
   pub tail-none : p ≤ length l → (getD l a 0 ≡ colonByte → ⊥) → Tail l p (Reached a)
   tail-none h n = record {
@@ -182,9 +182,9 @@ module _ (l : List ℕ) (p a : ℕ) (e : a ≡ past isBlank l p) where
 
 -- after a closing bracket: blanks, digits and a tail
 module _ (l : List ℕ) (p a b : ℕ) (e : a ≡ past isBlank l p) (f : b ≡ past isDigit l a) where
-  to-ended : (k : Stack) (q : ℕ) (g : Forest) → from l p (closed k q g) ≡ from l b (ended k (pair q g (markOf (run isDigit (drop a l)))))
+  to-ended : (k : Stack) (g : Forest) → from l p (closed k g) ≡ from l b (ended k (pair g (markOf (run isDigit (drop a l)))))
   unfolding step
-  to-ended k q g = blanks-on l p a (closed k q g) (λ i. refl) e ∙ rw f (digits-ended l a k q g (past-next isBlank l p a e))
+  to-ended k g = blanks-on l p a (closed k g) refl e ∙ rw f (digits-ended l a k g (past-next isBlank l p a e))
 
   pub closes-by : (r : Progress) → Tail l b r → Closes l p r
   closes-by (Reached c) h = record {
@@ -192,9 +192,9 @@ module _ (l : List ℕ) (p a b : ℕ) (e : a ≡ past isBlank l p) (f : b ≡ pa
     within = h .within;
     fresh = h .fresh;
     mark = markOf (run isDigit (drop a l));
-    goes = λ k q g. to-ended k q g ∙ h .goes k (pair q g (markOf (run isDigit (drop a l))));
+    goes = λ k g. to-ended k g ∙ h .goes k (pair g (markOf (run isDigit (drop a l))));
   }
-  closes-by (Stopped c) h = λ k q g. to-ended k q g ∙ h k (pair q g (markOf (run isDigit (drop a l))))
+  closes-by (Stopped c) h = λ k g. to-ended k g ∙ h k (pair g (markOf (run isDigit (drop a l))))
 
 -- ---- how a subtree starts
 
@@ -215,7 +215,7 @@ module _ (l : List ℕ) (p : ℕ) (x : Number) (s : Sampled l p x) where
 module _ (l : List ℕ) (p a d : ℕ) (e : a ≡ past isBlank l p) where
   to-want : (k : Stack) → from l p (want k) ≡ from l a (want k)
   unfolding step
-  to-want k = blanks-on l p a (want k) (λ q. refl) e
+  to-want k = blanks-on l p a (want k) refl e
 
   pub starts-leaf : (r : Start) → Starts l a d r → Starts l p d r
   starts-leaf (Leaf x) s = record {

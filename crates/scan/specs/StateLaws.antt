@@ -35,12 +35,12 @@ clash e d = absurd (false≢true (sym d ∙ e))
 -- ---- runs
 
 -- blanks pass by
-pub blanks-on : (l : List ℕ) (p a : ℕ) (s : State) → ((q : ℕ) → step s q blank ≡ to s) → a ≡ past isBlank l p → from l p s ≡ from l a s
-blanks-on l p a s f e = rw e (from-run isBlank l p s (λ q b d. rw (kind-blank b d) (f q)))
+pub blanks-on : (l : List ℕ) (p a : ℕ) (s : State) → step s blank ≡ to s → a ≡ past isBlank l p → from l p s ≡ from l a s
+blanks-on l p a s f e = rw e (from-run isBlank l p s (λ b d. rw (kind-blank b d) f))
 
 -- one or more digits lead from s to s′ and stay there
-pub digits-on : (l : List ℕ) (b c : ℕ) (s s′ : State) → ((q d : ℕ) → step s q (digit d) ≡ to s′)
-    → ((q d : ℕ) → step s′ q (digit d) ≡ to s′) → c ≡ past isDigit l b → (c ≡ b → ⊥)
+pub digits-on : (l : List ℕ) (b c : ℕ) (s s′ : State) → ((d : ℕ) → step s (digit d) ≡ to s′)
+    → ((d : ℕ) → step s′ (digit d) ≡ to s′) → c ≡ past isDigit l b → (c ≡ b → ⊥)
     → from l b s ≡ from l c s′
 digits-on l b c s s′ f g u n = go (isDigit (getD l b 0)) refl
   where
@@ -48,8 +48,8 @@ digits-on l b c s s′ f g u n = go (isDigit (getD l b 0)) refl
     go false e = absurd (n (u ∙ past-stop isDigit l b e))
     go true e =
         let h = passes-within isDigit l b refl e in
-        rw u (from-to l b s s′ h (rw (kind-digit (getD l b 0) e) (f b (getD l b 0 - noughtByte)))
-        ∙ from-run isDigit l (b + 1) s′ (λ q i d. rw (kind-digit i d) (g q (i - noughtByte)))
+        rw u (from-to l b s s′ h (rw (kind-digit (getD l b 0) e) (f (getD l b 0 - noughtByte)))
+        ∙ from-run isDigit l (b + 1) s′ (λ i d. rw (kind-digit i d) (g (i - noughtByte)))
         ∙ ap (λ (i : ℕ). from l i s′) (sym (past-more isDigit l b h e)))
 
 -- ---- states that go on alike
@@ -60,7 +60,7 @@ pub ended-measured : (l : List ℕ) (a : ℕ) (k : Stack) (t : Tree) → Fresh l
 unfolding step final
 ended-measured l a k t f g =
     from-same l a (ended k t) (measured k t)
-    (λ h. kind-all (λ b. step (ended k t) a b ≡ step (measured k t) a b) (getD l a 0)
+    (λ h. kind-all (λ b. step (ended k t) b ≡ step (measured k t) b) (getD l a 0)
     (λ e. clash e (f h)) (λ e. refl) (λ e. refl) (λ e. refl) (λ e. refl) (λ e. refl) (λ e. absurd (g e)) (λ e. refl) refl)
     refl
 
@@ -70,7 +70,7 @@ pub whole-measured : (l : List ℕ) (a : ℕ) (k : Stack) (t : Tree) → Plain l
 unfolding step final
 whole-measured l a k t f g =
     from-same l a (whole k t) (measured k t)
-    (λ h. kind-all (λ b. step (whole k t) a b ≡ step (measured k t) a b) (getD l a 0)
+    (λ h. kind-all (λ b. step (whole k t) b ≡ step (measured k t) b) (getD l a 0)
     (λ e. refl) (λ e. clash e (f h)) (λ e. refl) (λ e. refl) (λ e. refl) (λ e. refl) (λ e. refl) (λ e. absurd (g e)) refl)
     refl
 
@@ -79,7 +79,7 @@ pub part-measured : (l : List ℕ) (a : ℕ) (k : Stack) (t : Tree) → Plain l 
 unfolding step final
 part-measured l a k t f =
     from-same l a (part k t) (measured k t)
-    (λ h. kind-all (λ b. step (part k t) a b ≡ step (measured k t) a b) (getD l a 0)
+    (λ h. kind-all (λ b. step (part k t) b ≡ step (measured k t) b) (getD l a 0)
     (λ e. refl) (λ e. clash e (f h)) (λ e. refl) (λ e. refl) (λ e. refl) (λ e. refl) (λ e. refl) (λ e. refl) refl)
     refl
 
@@ -88,7 +88,7 @@ pub sample-ended : (l : List ℕ) (a x c : ℕ) (k : Stack) → Plain l a → fr
 unfolding step final
 sample-ended l a x c k f =
     from-same l a (sample k x c) (ended k (leaf x))
-    (λ h. kind-all (λ b. step (sample k x c) a b ≡ step (ended k (leaf x)) a b) (getD l a 0)
+    (λ h. kind-all (λ b. step (sample k x c) b ≡ step (ended k (leaf x)) b) (getD l a 0)
     (λ e. refl) (λ e. clash e (f h)) (λ e. refl) (λ e. refl) (λ e. refl) (λ e. refl) (λ e. refl) (λ e. refl) refl)
     refl
 
@@ -96,70 +96,70 @@ pub sample-full : (l : List ℕ) (a x : ℕ) (k : Stack) → from l a (sample k 
 unfolding step final longer
 sample-full l a x k =
     from-same l a (sample k x 0) (ended k (leaf x))
-    (λ h. kind-all (λ b. step (sample k x 0) a b ≡ step (ended k (leaf x)) a b) (getD l a 0)
+    (λ h. kind-all (λ b. step (sample k x 0) b ≡ step (ended k (leaf x)) b) (getD l a 0)
     (λ e. refl) (λ e. refl) (λ e. refl) (λ e. refl) (λ e. refl) (λ e. refl) (λ e. refl) (λ e. refl) refl)
     refl
 
 -- after the digits of a mark, at no digit; after a closing bracket, at no blank and no digit
-support-ended : (l : List ℕ) (a : ℕ) (k : Stack) (q : ℕ) (g : Forest) (x : ℕ) → Plain l a
-    → from l a (support k q g x) ≡ from l a (ended k (pair q g (marked x)))
+support-ended : (l : List ℕ) (a : ℕ) (k : Stack) (g : Forest) (x : ℕ) → Plain l a
+    → from l a (support k g x) ≡ from l a (ended k (pair g (marked x)))
 unfolding step final
-support-ended l a k q g x f =
-    from-same l a (support k q g x) (ended k (pair q g (marked x)))
-    (λ h. kind-all (λ b. step (support k q g x) a b ≡ step (ended k (pair q g (marked x))) a b) (getD l a 0)
+support-ended l a k g x f =
+    from-same l a (support k g x) (ended k (pair g (marked x)))
+    (λ h. kind-all (λ b. step (support k g x) b ≡ step (ended k (pair g (marked x))) b) (getD l a 0)
     (λ e. refl) (λ e. clash e (f h)) (λ e. refl) (λ e. refl) (λ e. refl) (λ e. refl) (λ e. refl) (λ e. refl) refl)
     refl
 
-closed-ended : (l : List ℕ) (a : ℕ) (k : Stack) (q : ℕ) (g : Forest) → Fresh l a → Plain l a
-    → from l a (closed k q g) ≡ from l a (ended k (pair q g unmarked))
+closed-ended : (l : List ℕ) (a : ℕ) (k : Stack) (g : Forest) → Fresh l a → Plain l a
+    → from l a (closed k g) ≡ from l a (ended k (pair g unmarked))
 unfolding step final
-closed-ended l a k q g n f =
-    from-same l a (closed k q g) (ended k (pair q g unmarked))
-    (λ h. kind-all (λ b. step (closed k q g) a b ≡ step (ended k (pair q g unmarked)) a b) (getD l a 0)
+closed-ended l a k g n f =
+    from-same l a (closed k g) (ended k (pair g unmarked))
+    (λ h. kind-all (λ b. step (closed k g) b ≡ step (ended k (pair g unmarked)) b) (getD l a 0)
     (λ e. clash e (n h)) (λ e. clash e (f h)) (λ e. refl) (λ e. refl) (λ e. refl) (λ e. refl) (λ e. refl) (λ e. refl) refl)
     refl
 
 -- ---- the mark after a closing bracket
 
-support-run : (k : Stack) (q : ℕ) (g : Forest) (m : List ℕ) (x p : ℕ)
-    → walk (support k q g x) p m ≡ walk (support k q g (valueAfter x (run isDigit m))) (p + lead isDigit m) (drop (lead isDigit m) m)
+support-run : (k : Stack) (g : Forest) (m : List ℕ) (x p : ℕ)
+    → walk (support k g x) p m ≡ walk (support k g (valueAfter x (run isDigit m))) (p + lead isDigit m) (drop (lead isDigit m) m)
 unfolding walk step lead run valueAfter
-support-run k q g [] x p = rw (add-zero p)
-support-run k q g (b ∷ m) x p = go (isDigit b) refl (support-run k q g m)
+support-run k g [] x p = rw (add-zero p)
+support-run k g (b ∷ m) x p = go (isDigit b) refl (support-run k g m)
   where
     go : (y : Bool) → isDigit b ≡ y
-        → ((z i : ℕ) → walk (support k q g z) i m ≡ walk (support k q g (valueAfter z (run isDigit m))) (i + lead isDigit m)
+        → ((z i : ℕ) → walk (support k g z) i m ≡ walk (support k g (valueAfter z (run isDigit m))) (i + lead isDigit m)
         (drop (lead isDigit m) m))
-        → walk (support k q g x) p (b ∷ m) ≡ walk (support k q g (valueAfter x (run isDigit (b ∷ m)))) (p + lead isDigit (b ∷ m))
+        → walk (support k g x) p (b ∷ m) ≡ walk (support k g (valueAfter x (run isDigit (b ∷ m)))) (p + lead isDigit (b ∷ m))
         (drop (lead isDigit (b ∷ m)) (b ∷ m))
     go true e f = rw (e, kind-digit b e, add-suc p (lead isDigit m), sym (suc-add p (lead isDigit m))) (f (x * 10 + (b - noughtByte)) (suc p))
     go false e f = rw (e, add-zero p)
 
-from-support : (l : List ℕ) (p : ℕ) (k : Stack) (q : ℕ) (g : Forest) (x : ℕ)
-    → from l p (support k q g x) ≡ from l (past isDigit l p) (support k q g (valueAfter x (run isDigit (drop p l))))
-from-support l p k q g x = support-run k q g (drop p l) x p
-    ∙ ap (walk (support k q g (valueAfter x (run isDigit (drop p l)))) (past isDigit l p)) (drop-drop (lead isDigit (drop p l)) p l)
+from-support : (l : List ℕ) (p : ℕ) (k : Stack) (g : Forest) (x : ℕ)
+    → from l p (support k g x) ≡ from l (past isDigit l p) (support k g (valueAfter x (run isDigit (drop p l))))
+from-support l p k g x = support-run k g (drop p l) x p
+    ∙ ap (walk (support k g (valueAfter x (run isDigit (drop p l)))) (past isDigit l p)) (drop-drop (lead isDigit (drop p l)) p l)
 
 -- the digits at b, if there are any, are a mark
-pub digits-ended : (l : List ℕ) (b : ℕ) (k : Stack) (q : ℕ) (g : Forest) → Fresh l b
-    → from l b (closed k q g) ≡ from l (past isDigit l b) (ended k (pair q g (markOf (run isDigit (drop b l)))))
+pub digits-ended : (l : List ℕ) (b : ℕ) (k : Stack) (g : Forest) → Fresh l b
+    → from l b (closed k g) ≡ from l (past isDigit l b) (ended k (pair g (markOf (run isDigit (drop b l)))))
 unfolding step run
-digits-ended l b k q g f = go (isDigit (getD l b 0)) refl
+digits-ended l b k g f = go (isDigit (getD l b 0)) refl
   where
     none : (isDigit (getD l b 0) ≡ false) → run isDigit (drop b l) ≡ []
     none d = ⊎-elim (λ e. rw (drop-cons l b 0 (ltb-true b (length l) e), d) refl)
         (λ e. rw (drop-of-length-le l (ltb-false b (length l) e)) refl) (decide (ltb b (length l)))
 
     go : (y : Bool) → isDigit (getD l b 0) ≡ y
-        → from l b (closed k q g) ≡ from l (past isDigit l b) (ended k (pair q g (markOf (run isDigit (drop b l)))))
-    go false d = closed-ended l b k q g f (λ h. d) ∙ ap (λ (i : ℕ). from l i (ended k (pair q g unmarked))) (sym (past-stop isDigit l b d))
-        ∙ ap (λ (ds : List ℕ). from l (past isDigit l b) (ended k (pair q g (markOf ds)))) (sym (none d))
+        → from l b (closed k g) ≡ from l (past isDigit l b) (ended k (pair g (markOf (run isDigit (drop b l)))))
+    go false d = closed-ended l b k g f (λ h. d) ∙ ap (λ (i : ℕ). from l i (ended k (pair g unmarked))) (sym (past-stop isDigit l b d))
+        ∙ ap (λ (ds : List ℕ). from l (past isDigit l b) (ended k (pair g (markOf ds)))) (sym (none d))
     go true d =
         let w = passes-within isDigit l b refl d in
         let z : drop (b + 1) l ≡ drop (suc b) l = ap (λ (i : ℕ). drop i l) (add-one b) in
-        from-to l b (closed k q g) (support k q g (getD l b 0 - noughtByte)) w (rw (kind-digit (getD l b 0) d))
-        ∙ from-support l (b + 1) k q g (getD l b 0 - noughtByte)
-        ∙ support-ended l (past isDigit l (b + 1)) k q g _ (past-next isDigit l (b + 1) (past isDigit l (b + 1)) refl)
+        from-to l b (closed k g) (support k g (getD l b 0 - noughtByte)) w (rw (kind-digit (getD l b 0) d))
+        ∙ from-support l (b + 1) k g (getD l b 0 - noughtByte)
+        ∙ support-ended l (past isDigit l (b + 1)) k g _ (past-next isDigit l (b + 1) (past isDigit l (b + 1)) refl)
         ∙ rw (past-more isDigit l b w d, drop-cons l b 0 w, d, z) refl
 
 -- ---- states that stop
@@ -169,7 +169,7 @@ pub measure-stops : (l : List ℕ) (b : ℕ) (k : Stack) (t : Tree) → Fresh l 
 unfolding step final
 measure-stops l b k t n f =
     from-stops l b (measure k t)
-    (λ h. kind-all (λ c. step (measure k t) b c ≡ stuck) (getD l b 0)
+    (λ h. kind-all (λ c. step (measure k t) c ≡ stuck) (getD l b 0)
     (λ e. clash e (n h)) (λ e. clash e (f h)) (λ e. refl) (λ e. refl) (λ e. refl) (λ e. refl) (λ e. refl) (λ e. refl) refl)
     refl
 
@@ -177,17 +177,17 @@ pub point-stops : (l : List ℕ) (b : ℕ) (k : Stack) (t : Tree) → Plain l b 
 unfolding step final
 point-stops l b k t f =
     from-stops l b (point k t)
-    (λ h. kind-all (λ c. step (point k t) b c ≡ stuck) (getD l b 0)
+    (λ h. kind-all (λ c. step (point k t) c ≡ stuck) (getD l b 0)
     (λ e. refl) (λ e. clash e (f h)) (λ e. refl) (λ e. refl) (λ e. refl) (λ e. refl) (λ e. refl) (λ e. refl) refl)
     refl
 
 -- ---- where a subtree has to come: digits, an opening bracket if one may come, and else nothing
 
 pub want-opens : (l : List ℕ) (a d : ℕ) (k : Stack) → a < length l → getD l a 0 ≡ openingByte → 0 < d → depth k + d ≡ mostOpen
-    → from l a (want k) ≡ from l (a + 1) (want (opened k a))
+    → from l a (want k) ≡ from l (a + 1) (want (opened k))
 unfolding step kindOf entered
 want-opens l a d k w b h e =
-    let z : depth k < mostOpen = omega arith in from-to l a (want k) (want (opened k a)) w (rw (b, lt-ltb (depth k) mostOpen z))
+    let z : depth k < mostOpen = omega arith in from-to l a (want k) (want (opened k)) w (rw (b, lt-ltb (depth k) mostOpen z))
 
 pub want-full : (l : List ℕ) (a d : ℕ) (k : Stack) → a < length l → getD l a 0 ≡ openingByte → d ≡ 0 → depth k + d ≡ mostOpen
     → from l a (want k) ≡ stops a
@@ -198,7 +198,7 @@ pub want-stops : (l : List ℕ) (a : ℕ) (k : Stack) → Fresh l a → Plain l 
 unfolding step final
 want-stops l a k n f g =
     from-stops l a (want k)
-    (λ w. kind-all (λ c. step (want k) a c ≡ stuck) (getD l a 0)
+    (λ w. kind-all (λ c. step (want k) c ≡ stuck) (getD l a 0)
     (λ z. clash z (n w)) (λ z. clash z (f w)) (λ z. absurd (g z)) (λ z. refl) (λ z. refl) (λ z. refl) (λ z. refl) (λ z. refl) refl)
     refl
 

@@ -97,9 +97,13 @@ check9 n r = lineAt 9 (λ v. not (ends (nodes r) r v)) (range 0 (nodes r))
 abbrev pub children : List ℕ → ℕ → ℕ
 children r v = count (childOf r v) (range 0 (nodes r))
 
--- check 10: the lowest inner node with one child or none (RULES 7.5)
+-- how few children an inner node can have (check 10, RULES 7.5)
+abbrev pub fewestChildren : ℕ
+fewestChildren = 1
+
+-- check 10: the lowest inner node with no child at all (RULES 7.5)
 abbrev pub check10 : ℕ → List ℕ → Check
-check10 n r = lineAt 10 (λ v. ltb (children r v) 2) (range n (nodes r))
+check10 n r = lineAt 10 (λ v. ltb (children r v) fewestChildren) (range n (nodes r))
 
 -- checks 5 to 8, by rising number (RULES 7.2): they look at the words one by one
 abbrev pub wordChecks : ℕ → List ℕ → List Check

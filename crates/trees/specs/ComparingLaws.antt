@@ -221,7 +221,7 @@ module _ (n : ℕ) (r q : List ℕ) (a : Valid n r) (b : Valid n q) where
 module _ (n : ℕ) (r : List ℕ) (std : Standard n r) where
   after-root : (v : ℕ) → n < v → v < nodes r → In (groupAt n r v) (nontrivial n r)
   after-root v h k = nontrivial-exactly n r (std .valid) (groupAt n r v) .1 (
-    inner-two n r (std .valid) v (omega arith) k,
+    inner-two n r std v (omega arith) k,
     omega (arith, full),
     groups-in n r v k,
   )

@@ -190,7 +190,7 @@ module _ (rule : Rule) (n : ℕ) (rs : List Run) (ok : (run : Run) → List·Mem
           go true e = rw (inner-of-groups q q-valid x (leb-true 2 (size x) e))
               (sym (and-or-distrib-left (rule n rs x) (member x (whole n ∷ held n (take i rs))) (member x (inner n q))))
           go false e = not-yes _ (λ k. let t = in-inner n q x (and-r (rule n rs x) (member x (inner n q)) k) in
-              omega (arith, leb-false 2 (size x) e, inner-two n q q-valid (t .0) (t .1) (t .2), ap size (t .3)))
+              omega (arith, leb-false 2 (size x) e, inner-two n q (ok (getD rs i d) (member-at rs i d h)) (t .0) (t .1) (t .2), ap size (t .3)))
 
   -- after h runs all that is shown is accepted, where each shown group is held by one of them
   pub so-far-all : (h : ℕ) → ((x : Group) → In x (shown rule n rs) → Holder n x (take h rs)) → soFar rule n rs h ≡ branching (shown rule n rs)

@@ -54,7 +54,13 @@ pub mod NodeLaws
 pub mod Ranks
 pub mod Renaming
 pub mod RankLaws
+pub mod Choosing
+pub mod ChoosingLaws
 pub mod RenamingLaws
+pub mod Singles
+pub mod SingleLaws
+pub mod Cutting
+pub mod CuttingLaws
 pub mod Measuring
 pub mod MeasuringLaws
 pub mod Merging

@@ -150,12 +150,14 @@ module _ (n : ℕ) (r : List ℕ) (ok : Falls n r) (rise : rising (rankAt n r) n
       (λ q. true≢false (sym (d .3) ∙ ap (λ (w : ℕ). has (groupAt n r w) (t .0)) (sym q) ∙ t .2)) (eq-eqb _ _ (c .2)) (eq-eqb _ _ (d .2))
 
   rising-valid : fillerZero n r ≡ true → Valid n r
-  rising-valid z = falls-valid n r ok (λ w a b. eqb-true _ _ (not-false _ (never-to (littered r) (nodes r + 1) (rowWords n) z w (omega arith) b))) two-children
+  rising-valid z = falls-valid n r ok (λ w a b. eqb-true _ _ (not-false _ (never-to (littered r) (nodes r + 1) (rowWords n) z w (omega arith) b)))
+      (λ v a h. omega (arith, two-children v a h))
 
   rising-standard : fillerZero n r ≡ true → Standard n r
   unfolding inner
   rising-standard z = let valid = rising-valid z in record {
     valid = valid;
+    two = two-children;
     strict = in-order-strict (inner n r) (order-table (nodes r - n) (groupAt n r) n (λ v a b. let l = rank-next v a (omega arith) in
         rank-before n r valid v (suc v) (omega arith) (omega arith) (λ q. omega (arith, ap (λ (g : Group). rankOf n (size g) (leastOf own g)) q))
         ∙ lt-ltb _ _ l));
@@ -182,7 +184,7 @@ module _ (n : ℕ) (r : List ℕ) (most : n ≤ mostSamples) (words : length r �
       and-both (spans n (nodes r)) _ (and-both (ltb n (nodes r)) (ltb (nodes r) (rowWords n)) (lt-ltb _ _ (ok .low)) (lt-ltb _ _ (ok .high)))
       (and-both (falling n r) _ (falls-from n r (standard-falls n r std))
       (and-both (fillerZero n r) (ranked n r) (never-from (littered r) (nodes r + 1) (rowWords n) (λ w a b. ap not (eq-eqb _ _ (ok .filler w (omega arith) b))))
-      (and-both (leb 2 (sizeAt n r (nodes r - 1))) _ (le-leb 2 _ (inner-two n r ok (nodes r - 1) (omega (arith, ok .low)) (omega (arith, ok .low))))
+      (and-both (leb 2 (sizeAt n r (nodes r - 1))) _ (le-leb 2 _ (inner-two n r std (nodes r - 1) (omega (arith, ok .low)) (omega (arith, ok .low))))
       (never-from (falters (rankAt n r)) n (nodes r - 1) (λ v a b. lt-leb _ _ (rank-rises n r std v (suc v) a (omega arith) (omega arith)))))))
 
   pub linear-standard : linear n r ≡ standard n r

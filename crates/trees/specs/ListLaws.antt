@@ -90,7 +90,7 @@ unfolding tabulate
 tabulate-in zero s x h k = absurd (omega arith)
 tabulate-in (suc m) s x h k = ⊎-elim (λ e. List·Memᴰ·head (sym e)) (λ l. List·Memᴰ·tail (tabulate-in m (suc s) x l (omega arith))) (eq-or-lt-of-le h)
 
-in-tabulate : (m s x : ℕ) → List·Memᴰ x (tabulate m (λ u. u) s) → (s ≤ x) × (x < s + m)
+pub in-tabulate : (m s x : ℕ) → List·Memᴰ x (tabulate m (λ u. u) s) → (s ≤ x) × (x < s + m)
 unfolding tabulate
 in-tabulate (suc m) s x (List·Memᴰ·head e) = (omega arith, omega arith)
 in-tabulate (suc m) s x (List·Memᴰ·tail k) = let r = in-tabulate m (suc s) x k in (omega arith, omega arith)

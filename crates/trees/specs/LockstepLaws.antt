@@ -126,7 +126,7 @@ module _ {n : ℕ} {r : List ℕ} (std : Standard n r) (keep : List Bool) where
   kept-start x t = kept-past n r keep (x - n) n x (omega (arith, t .low)) (t .high) (t .none)
 
   full : (x : ℕ) → n ≤ x → x < nodes r → 0 < size (groupAt n r x)
-  full x a h = omega (arith, inner-two n r (std .valid) x a h)
+  full x a h = omega (arith, inner-two n r std x a h)
 
   rank-in : {z l : List ℕ} → Ranked n r z l → (x : ℕ) → n ≤ x → x < nodes r → rankOrEnd n (nodes r) z l x ≡ groupRank n (groupAt n r x)
   unfolding rankOrEnd

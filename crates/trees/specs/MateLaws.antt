@@ -204,5 +204,5 @@ candidate-mate n q r qs rs start laid a b h k e = go (decide (ltb b (nodes r))) 
     go : (ltb b (nodes r) ≡ true) ⊎ (ltb b (nodes r) ≡ false) → (fit b ≡ true) ⊎ (fit b ≡ false) → confirmed (nodes r) b (fit b) ≡ mateOf n q r a
     go (inl x) (inl y) = rw (x, y) (sym (mate-is n q r a rs b (w .low) (ltb-true b (nodes r) x) (fits-same n q r ok start laid a b k y)))
     go (inl x) (inr y) = rw (x, y) (sym (mate-none n q r a (λ z i j s. true≢false
-        (sym (subst (λ (u : ℕ). fit u ≡ true) (only z i j s) (same-fits n q r ok start laid a z k (omega (arith, inner-two n r (rs .valid) z i j)) s)) ∙ y))))
+        (sym (subst (λ (u : ℕ). fit u ≡ true) (only z i j s) (same-fits n q r ok start laid a z k (omega (arith, inner-two n r rs z i j)) s)) ∙ y))))
     go (inr x) y = rw x (sym (mate-none n q r a (λ z i j s. omega (arith, only z i j s, ltb-false b (nodes r) x))))

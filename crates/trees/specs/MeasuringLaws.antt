@@ -184,7 +184,7 @@ module _ (n : ℕ) (r : List ℕ) (ok : Valid n r) where
 
   -- after the climb from the first sample the tables give sizes and ranks
   module _ (sizes lows : List ℕ) (all : TablesFrom n r 0 sizes lows) (v : ℕ) (h : v < nodes r) where
-    tables-size : getD sizes v 0 ≡ size (groupAt n r v)
+    pub tables-size : getD sizes v 0 ≡ size (groupAt n r v)
     tables-size = all .sized .is v zero-le h ∙ ap size (group-all v)
 
     pub tables-few : getD sizes v 0 ≤ n

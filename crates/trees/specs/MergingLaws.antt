@@ -106,7 +106,7 @@ module _ {n : ℕ} {r : List ℕ} (std : Standard n r) (keep : List Bool) where
   kept-long x m = let t = in-kept n r keep n x m in rw (← (t .4)) (length-group n r (t .0))
 
   kept-big : (x : Group) → In x (kept n r keep) → 2 ≤ size x
-  kept-big x m = let t = in-kept n r keep n x m in rw (← (t .4)) (inner-two n r (std .valid) (t .0) (t .1) (t .2))
+  kept-big x m = let t = in-kept n r keep n x m in rw (← (t .4)) (inner-two n r std (t .0) (t .1) (t .2))
 
   kept-agree : (x y : Group) → In x (kept n r keep) → In y (kept n r keep) → Agree x y
   kept-agree x y m k = let t = in-kept n r keep n x m in let u = in-kept n r keep n y k in rw (← (t .4), ← (u .4)) (group-agree n r (std .valid) (t .0) (u .0))

@@ -156,7 +156,7 @@ standard-renumbered n r std = ap (rowOf n)
         from : In x (inner n r) → In x (branching (groupSet n r))
         from m = let t = in-inner n r x m in
             branching-in (groupSet n r) x
-            (rw (← (t .3)) (inner-two n r ok (t .0) (t .1) (t .2))) (member-set n r x ∙ (rw (← (t .3)) (groups-in n r (t .0) (t .2))))
+            (rw (← (t .3)) (inner-two n r std (t .0) (t .1) (t .2))) (member-set n r x ∙ (rw (← (t .3)) (groups-in n r (t .0) (t .2))))
 
 -- there is no other such tree (RULES 5.3): two standard rows with equal groups are equal
 pub standard-unique : (n : ℕ) (r q : List ℕ) → Standard n r → Standard n q → ((x : Group) → member x (groups n r) ≡ member x (groups n q)) → r ≡ q

@@ -10,8 +10,8 @@ use lib.ListN.{length, take}
 use lib.Seq.{take-length}
 use borrow.Author.Tests.{lt-ltb, le-ltb, eq-eqb, ne-eqb}
 use Rattle.trees.specs.Groups.{Group, has, lowest}
-use Rattle.trees.specs.Rows.{parent, rootMark, meets, groupAt, inner}
-use Rattle.trees.specs.Checks.{mostSamples}
+use Rattle.trees.specs.Rows.{nodes, parent, rootMark, meets, groupAt, inner}
+use Rattle.trees.specs.Checks.{mostSamples, children}
 use Rattle.trees.specs.Valid.{Valid, Standard}
 use Rattle.trees.specs.Numbering.{lastWith, rowOf}
 use Rattle.trees.specs.ListLaws.{tabulate-eq}
@@ -106,9 +106,11 @@ module _ (n : ℕ) (gs : List Group) (ok : Family n gs) (most : n ≤ mostSample
     down = rw nodes-row down;
   }
 
+  planted-two : (v : ℕ) → n ≤ v → v < nodes (rowOf n gs) → 2 ≤ children (rowOf n gs) v
+  planted-two = rw nodes-row (by-inner _ (two-children n gs ok rootMark _ is))
+
   pub planted-valid : Valid n (rowOf n gs)
-  planted-valid = falls-valid n (rowOf n gs) planted-falls (rw nodes-row (λ w a b. filler-row n gs w a))
-      (rw nodes-row (by-inner _ (two-children n gs ok rootMark _ is)))
+  planted-valid = falls-valid n (rowOf n gs) planted-falls (rw nodes-row (λ w a b. filler-row n gs w a)) (λ v a h. omega (arith, planted-two v a h))
 
   pub planted-standard : Standard n (rowOf n gs)
-  planted-standard = record { valid = planted-valid; strict = rw planted (ok .strict) }
+  planted-standard = record { valid = planted-valid; two = planted-two; strict = rw planted (ok .strict) }

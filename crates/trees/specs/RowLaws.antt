@@ -12,7 +12,8 @@ use borrow.Author.Tests.{eqb-true, eqb-false, eq-eqb, ne-eqb, ltb-true, ltb-fals
 use Rattle.trees.specs.Lists.{tabulate, range}
 use Rattle.trees.specs.Groups.{Group, has, whole, single, size, trivial}
 use Rattle.trees.specs.Rows.{nodes, parent, rootMark, childOf, meets, ends, groupAt, groups, inner, holds}
-use Rattle.trees.specs.Valid.{Valid, In}
+use Rattle.trees.specs.Checks.{children}
+use Rattle.trees.specs.Valid.{Valid, In, Standard}
 use Rattle.trees.specs.Rooted.{Rooted}
 use Rattle.trees.specs.BoolLaws.{true-eq, not-yes, decide}
 use Rattle.trees.specs.ListLaws.{length-tabulate, getD-tabulate, tabulate-add, tabulate-same, in-range, range-in, weigh-found, count-two, count-beside}
@@ -168,8 +169,8 @@ module _ (n : ℕ) (r : List ℕ) (ok : Valid n r) where
 
   -- ---- below each node there is a leaf, so that no group is empty
 
-  some-child : (v : ℕ) → n ≤ v → v < nodes r → (c : ℕ) × (c < nodes r) × (parent r c ≡ v)
-  some-child v a h = let t = weigh-found (λ u. 1) (childOf r v) (range 0 (nodes r)) (omega (arith, ok .two v a h)) in
+  pub some-child : (v : ℕ) → n ≤ v → v < nodes r → (c : ℕ) × (c < nodes r) × (parent r c ≡ v)
+  some-child v a h = let t = weigh-found (λ u. 1) (childOf r v) (range 0 (nodes r)) (ok .child v a h) in
       (t .0, in-range 0 (nodes r) (t .0) (t .1) .1, eqb-true _ _ (t .2))
 
   leaf-from : (d f v : ℕ) → f + d ≡ nodes r → v < nodes r → ends f r v ≡ false → (s : ℕ) × (s < n) × Above r v s
@@ -215,7 +216,7 @@ module _ (n : ℕ) (r : List ℕ) (ok : Valid n r) where
   whole-inner = let t = top-of n r valid-rooted n (ok .low) in
       rw (← root-group (t .0) (t .1) (t .2) (t .3)) (inner-in n r (t .0) (t .1) (t .2))
 
-  -- ---- an inner node has two samples or more, since two of its children share none
+  -- ---- two children of a node share no sample
 
   siblings : (v c d : ℕ) → c < nodes r → v < nodes r → parent r c ≡ v → parent r d ≡ v → (c ≡ d → ⊥) → Above r d c → ⊥
   siblings v c d h k p q x m = no-loop r (suc (nodes r)) (nodes r) (nodes r) d v (omega arith) (rw p at (meets-past r (nodes r) d c x m)) q
@@ -224,10 +225,10 @@ module _ (n : ℕ) (r : List ℕ) (ok : Valid n r) where
   apart-below : (v c d s : ℕ) → c < nodes r → d < nodes r → v < nodes r → parent r c ≡ v → parent r d ≡ v → (c ≡ d → ⊥) → Above r c s → Above r d s → ⊥
   apart-below v c d s h l k p q x a b = ⊎-elim (siblings v c d h k p q x) (siblings v d c l k q p (λ e. x (sym e))) (meets-line r (nodes r) c d s a b)
 
-  -- beside a child of v there is a leaf below v that is not below that child
-  pub leaf-beside : (v c : ℕ) → n ≤ v → v < nodes r → c < nodes r → parent r c ≡ v → (s : ℕ) × (s < n) × Above r v s × (Above r c s → ⊥)
-  leaf-beside v c a h k p =
-      let t = count-beside (childOf r v) 0 (nodes r) c (ok .two v a h) in
+  -- beside a child of v, where v has two, there is a leaf below v that is not below that child
+  pub leaf-beside : (v c : ℕ) → 2 ≤ children r v → v < nodes r → c < nodes r → parent r c ≡ v → (s : ℕ) × (s < n) × Above r v s × (Above r c s → ⊥)
+  leaf-beside v c two h k p =
+      let t = count-beside (childOf r v) 0 (nodes r) c two in
       let e : parent r (t .0) ≡ v = eqb-true _ _ (t .3) in
       let s = leaf-below (t .0) (t .2) in (
         s .0,
@@ -236,11 +237,12 @@ module _ (n : ℕ) (r : List ℕ) (ok : Valid n r) where
         λ m. apart-below v c (t .0) (s .0) k (t .2) h p e (λ x. t .4 (sym x)) m (s .2),
       )
 
-  pub inner-two : (v : ℕ) → n ≤ v → v < nodes r → 2 ≤ size (groupAt n r v)
-  inner-two v a h =
+  -- so an inner node with two children has two samples or more
+  pub two-samples : (v : ℕ) → n ≤ v → v < nodes r → 2 ≤ children r v → 2 ≤ size (groupAt n r v)
+  two-samples v a h two =
       let c = some-child v a h in
       let s = leaf-below (c .0) (c .1) in
-      let b = leaf-beside v (c .0) a h (c .1) (c .2) in
+      let b = leaf-beside v (c .0) two h (c .1) (c .2) in
       size-two (groupAt n r v) (s .0) (b .0)
       (in-group n r v (s .0) (s .1) (below-child n r valid-rooted (c .0) v (s .0) (c .1) h (omega (arith, ok .low)) (c .2) (s .2)))
       (in-group n r v (b .0) (b .1) (b .2))
@@ -263,3 +265,7 @@ module _ (n : ℕ) (r : List ℕ) (ok : Valid n r) where
       (λ t. rw (t .2, ← leaf-group n r valid-rooted (t .0) (t .1)) (groups-in n r (t .0) (omega (arith, ok .low))))
       (λ w. rw w (let t = in-inner n r (whole n) whole-inner in rw (← (t .3)) (groups-in n r (t .0) (t .2))))
       (trivial-exactly n g l .0 e)
+
+-- in a standard row an inner node has two samples or more
+pub inner-two : (n : ℕ) (r : List ℕ) → Standard n r → (v : ℕ) → n ≤ v → v < nodes r → 2 ≤ size (groupAt n r v)
+inner-two n r std v a h = two-samples n r (std .valid) v a h (std .two v a h)

@@ -3,20 +3,21 @@ use Prim.Native.Nat.{ℕ, zero, suc, _+_, _-_, _≤_, _<_}
 use mathlib.Core.Path.{_≡_, refl, sym, ap, _∙_, subst}
 use mathlib.Core.Logic.{_↔_, _⊎_, inl, inr, ⊎-elim}
 use mathlib.Core.List.{List}
-use mathlib.Core.Bool.{true, false}
+use mathlib.Core.Bool.{true, false, _&&_}
 use native.Mathlib.Nat.{add-zero, add-sub-of-le}
 use native.Mathlib.Omega.{arith}
 use lib.Dec.{ltb, eqb}
 use lib.ListN.{length, getD, take}
 use lib.Seq.{take-length, ext-getD}
-use borrow.Author.Tests.{eqb-true, eqb-false, ltb-true, ltb-false}
+use borrow.Author.Tests.{eqb-true, eqb-false, ltb-true, ltb-false, le-ltb}
 use Rattle.trees.specs.Groups.{Group, has, whole, lowest, before}
 use Rattle.trees.specs.Rows.{nodes, parent, rootMark, childOf, groupAt, inner}
-use Rattle.trees.specs.Checks.{judged}
-use Rattle.trees.specs.Valid.{Valid, Standard, isAccepted, inOrder, standard}
+use Rattle.trees.specs.Checks.{children, judged}
+use Rattle.trees.specs.Valid.{Valid, Standard, isAccepted, inOrder, branches, standard}
 use Rattle.trees.specs.Rooted.{Rooted}
 use Rattle.trees.specs.Numbering.{lastWith, rowOf}
 use Rattle.trees.specs.BoolLaws.{and-l, and-r, and-both, not-yes, decide}
+use Rattle.trees.specs.NeverLaws.{never-to, never-from}
 use Rattle.trees.specs.GroupLaws.{within-eq, lowest-has}
 use Rattle.trees.specs.OrderLaws.{Earlier, before-irrefl, before-size, before-earlier}
 use Rattle.trees.specs.MemberLaws.{nth, strict-table, strict-at, in-order-strict, strict-in-order}
@@ -34,14 +35,17 @@ use Rattle.trees.specs.RowLaws.{parent-range, valid-rooted, group-agree,
 pub standard-to : (n : ℕ) (r : List ℕ) → standard n r ≡ true → Standard n r
 unfolding standard
 standard-to n r e = record {
-  valid = judged-valid n r (accepted-to (judged n r) (and-l (isAccepted (judged n r)) (inOrder (inner n r)) e));
-  strict = in-order-strict (inner n r) (and-r (isAccepted (judged n r)) _ e);
+  valid = judged-valid n r (accepted-to (judged n r) (and-l (isAccepted (judged n r)) (branches n r && inOrder (inner n r)) e));
+  two = λ v a h. ltb-false (children r v) 2 (never-to (λ u. ltb (children r u) 2) n (nodes r)
+      (and-l (branches n r) (inOrder (inner n r)) (and-r (isAccepted (judged n r)) _ e)) v a h);
+  strict = in-order-strict (inner n r) (and-r (branches n r) _ (and-r (isAccepted (judged n r)) _ e));
 }
 
 pub standard-from : (n : ℕ) (r : List ℕ) → Standard n r → standard n r ≡ true
 unfolding standard
-standard-from n r ok = and-both (isAccepted (judged n r)) (inOrder (inner n r)) (ap isAccepted (valid-judged n r (ok .valid)))
-    (strict-in-order (inner n r) (ok .strict))
+standard-from n r ok = and-both (isAccepted (judged n r)) (branches n r && inOrder (inner n r)) (ap isAccepted (valid-judged n r (ok .valid)))
+    (and-both (branches n r) (inOrder (inner n r)) (never-from (λ u. ltb (children r u) 2) n (nodes r) (λ v a h. le-ltb (children r v) 2 (ok .two v a h)))
+    (strict-in-order (inner n r) (ok .strict)))
 
 module _ (n : ℕ) (r : List ℕ) (std : Standard n r) where
   ok : Valid n r
@@ -54,7 +58,7 @@ module _ (n : ℕ) (r : List ℕ) (std : Standard n r) where
   standard-family = record {
     strict = std .strict;
     long = λ g m. let t = in-inner n r g m in rw (← (t .3)) (length-group n r (t .0));
-    big = λ g m. let t = in-inner n r g m in rw (← (t .3)) (inner-two n r ok (t .0) (t .1) (t .2));
+    big = λ g m. let t = in-inner n r g m in rw (← (t .3)) (inner-two n r std (t .0) (t .1) (t .2));
     agree = λ g h m k. let t = in-inner n r g m in let u = in-inner n r h k in rw (← (t .3), ← (u .3)) (group-agree n r ok (t .0) (u .0));
     top = whole-inner n r ok;
   }
@@ -149,7 +153,7 @@ module _ (n : ℕ) (r : List ℕ) (std : Standard n r) where
 
       full : has (groupAt n r (n + j)) s ≡ true
       full = subst (λ (g : Group). has g s ≡ true) (at-inner n r j h)
-          (lowest-has (nth (inner n r) j) (rw (at-inner n r j h) (omega (arith, inner-two n r ok (n + j) (omega arith) h))))
+          (lowest-has (nth (inner n r) j) (rw (at-inner n r j h) (omega (arith, inner-two n r std (n + j) (omega arith) h))))
 
       top : n + j ≡ n → parent r (n + j) ≡ rootMark → lastWith s (take j (inner n r)) n rootMark ≡ parent r (n + j)
       top q e = let z : j ≡ 0 = omega arith in ap (λ (c : ℕ). lastWith s (take c (inner n r)) n rootMark) z ∙ sym e
@@ -179,15 +183,18 @@ module _ (n : ℕ) (r : List ℕ) (std : Standard n r) where
   pub standard-row : rowOf n (inner n r) ≡ r
   standard-row = ext-getD 0 (rowOf n (inner n r)) r (planted-valid n (inner n r) standard-family (ok .most) .words ∙ sym (ok .words)) same-word
 
--- `standard` is the order of RULES 4.1, for every valid row: of any two inner nodes the one with the lower number has the earlier group
+-- `standard` is RULES 4.1 and 4.5, for every valid row: each inner node has two children or more, and of any two the one with the lower number has
+-- the earlier group
 pub standard-order : (n : ℕ) (r : List ℕ) → Valid n r
-    → (standard n r ≡ true) ↔ ((u v : ℕ) → n ≤ u → u < v → v < nodes r → Earlier (groupAt n r u) (groupAt n r v))
+    → (standard n r ≡ true) ↔ (((v : ℕ) → n ≤ v → v < nodes r → 2 ≤ children r v)
+    × ((u v : ℕ) → n ≤ u → u < v → v < nodes r → Earlier (groupAt n r u) (groupAt n r v)))
 unfolding inner
 standard-order n r ok = (
-  λ e u v a h k. each u v h k .0 (node-before n r (standard-to n r e) u v a h k),
+  λ e. (standard-to n r e .two, λ u v a h k. each u v h k .0 (node-before n r (standard-to n r e) u v a h k)),
   λ f. standard-from n r record {
     valid = ok;
-    strict = strict-table (nodes r - n) (groupAt n r) n (λ u v a h k. let l : v < nodes r = omega (arith, ok .low) in each u v h l .1 (f u v a h l));
+    two = f .0;
+    strict = strict-table (nodes r - n) (groupAt n r) n (λ u v a h k. let l : v < nodes r = omega (arith, ok .low) in each u v h l .1 (f .1 u v a h l));
   },
 )
   where

@@ -11,7 +11,7 @@ use lib.ListN.{getD}
 use borrow.Author.Tests.{eqb-true, eqb-false, lt-ltb, le-ltb, eq-eqb, ne-eqb}
 use Rattle.trees.specs.Lists.{range, weigh, count}
 use Rattle.trees.specs.Rows.{nodes, parent, rootMark, childOf, meets, ends}
-use Rattle.trees.specs.Checks.{rowWords, children}
+use Rattle.trees.specs.Checks.{rowWords, children, fewestChildren}
 use Rattle.trees.specs.Valid.{Valid}
 use Rattle.trees.specs.Rooted.{Rooted}
 use Rattle.trees.specs.Falls.{Falls, turn, due}
@@ -119,8 +119,8 @@ module _ (n : ℕ) (r : List ℕ) (ok : Falls n r) where
             (λ v m. let h = in-range (suc n) (nodes r) v m in ne-eqb (parent r v) rootMark (λ q. omega (arith, ok .down v (h .0) (h .1), ok .high, ok .most))),
       ))
 
-  pub falls-valid : ((w : ℕ) → nodes r < w → w < rowWords n → getD r w 0 ≡ 0) → ((v : ℕ) → n ≤ v → v < nodes r → 2 ≤ children r v) → Valid n r
-  falls-valid zeros two = record {
+  pub falls-valid : ((w : ℕ) → nodes r < w → w < rowWords n → getD r w 0 ≡ 0) → ((v : ℕ) → n ≤ v → v < nodes r → fewestChildren ≤ children r v) → Valid n r
+  falls-valid zeros child = record {
     least = omega (arith, ok .low, ok .high);
     most = ok .most;
     words = ok .words;
@@ -131,5 +131,5 @@ module _ (n : ℕ) (r : List ℕ) (ok : Falls n r) where
     one = one-root;
     filler = zeros;
     reach = falls-rooted .reach;
-    two = two;
+    child = child;
   }

@@ -4,11 +4,13 @@ use mathlib.Core.Path.{_≡_}
 use mathlib.Core.Logic.{_⊎_}
 use mathlib.Core.List.{List, [], _∷_}
 use mathlib.Core.Bool.{Bool, true, false, _&&_}
+use lib.Dec.{ltb}
 use lib.ListN.{length, getD}
 use Rattle.trees.specs.Lists.{range, count}
+use Rattle.trees.specs.Scans.{never}
 use Rattle.trees.specs.Groups.{Group, before, member}
 use Rattle.trees.specs.Rows.{nodes, parent, rootMark, childOf, ends, inner}
-use Rattle.trees.specs.Checks.{Verdict, accepted, refused, counted, wrote, fewestSamples, mostSamples, rowWords, children, judged}
+use Rattle.trees.specs.Checks.{Verdict, accepted, refused, counted, wrote, fewestSamples, mostSamples, rowWords, children, fewestChildren, judged}
 
 -- A row to which none of checks 1, 3 and 5 to 10 applies (RULES 7.5); judging accepts these and no others (`judged-valid`, `valid-judged`).
 pub record Valid (n : ℕ) (r : List ℕ) : Type 0 where
@@ -22,7 +24,7 @@ pub record Valid (n : ℕ) (r : List ℕ) : Type 0 where
   pub one : count (childOf r rootMark) (range n (nodes r)) ≡ 1
   pub filler : (w : ℕ) → nodes r < w → w < rowWords n → getD r w 0 ≡ 0
   pub reach : (v : ℕ) → v < nodes r → ends (nodes r) r v ≡ true
-  pub two : (v : ℕ) → n ≤ v → v < nodes r → 2 ≤ children r v
+  pub child : (v : ℕ) → n ≤ v → v < nodes r → fewestChildren ≤ children r v
 
 -- g is one of gs
 abbrev pub In : Group → List Group → Type 0
@@ -33,9 +35,10 @@ abbrev pub Strict : List Group → Type 0
 Strict [] = Unit {0}
 Strict (g ∷ gs) = ((h : Group) → In h gs → before g h ≡ true) × Strict gs
 
--- A valid row in standard numbering, as rows in a study and in a report are (RULES 4.4).
+-- A valid row in standard numbering, as rows in a study and in a report are (RULES 4.4); no inner node of it has a single child (RULES 4.5).
 pub record Standard (n : ℕ) (r : List ℕ) : Type 0 where
   pub valid : Valid n r
+  pub two : (v : ℕ) → n ≤ v → v < nodes r → 2 ≤ children r v
   pub strict : Strict (inner n r)
 
 -- whether a verdict is acceptance
@@ -51,6 +54,10 @@ inOrder [] = true
 inOrder (g ∷ []) = true
 inOrder (g ∷ h ∷ gs) = before g h && inOrder (h ∷ gs)
 
--- Standard, as a test (RULES 4.4, `standard-to`, `standard-from`).
+-- whether each inner node has two children or more (RULES 4.5)
+abbrev pub branches : ℕ → List ℕ → Bool
+branches n r = never (λ v. ltb (children r v) 2) n (nodes r)
+
+-- Standard, as a test (RULES 4.4, 4.5, `standard-to`, `standard-from`).
 unfoldable pub standard : ℕ → List ℕ → Bool
-standard n r = isAccepted (judged n r) && inOrder (inner n r)
+standard n r = isAccepted (judged n r) && (branches n r && inOrder (inner n r))

@@ -8,11 +8,11 @@ use native.Mathlib.Omega.{arith}
 use lib.Dec.{eqb, ltb, leb}
 use lib.ListN.{length, getD}
 use lib.Seq.{ext-getD}
-use borrow.Author.Tests.{eqb-true, ltb-true, ltb-false, eq-eqb, le-ltb, le-leb, not-true, not-false}
+use borrow.Author.Tests.{eqb-true, ltb-true, ltb-false, eq-eqb, le-leb, not-true, not-false, le-ltb}
 use Rattle.trees.specs.Lists.{nowhere, at, tabulate, weigh, range, count}
 use Rattle.trees.specs.Rows.{nodes, parent, rootMark, childOf, ends}
 use Rattle.trees.specs.Checks.{Verdict, accepted, refused, counted, wrote, fewestSamples, mostSamples, rowWords, outside, isInner}
-use Rattle.trees.specs.Checks.{stray, children, check1, check3, check5, check6, check7, check8, check9, check10, rowChecks, judgeChecks, judged, _⊳_}
+use Rattle.trees.specs.Checks.{stray, children, fewestChildren, check1, check3, check5, check6, check7, check8, check9, check10, rowChecks, judgeChecks, judged, _⊳_}
 use Rattle.trees.specs.Valid.{Valid, isAccepted}
 use Rattle.trees.specs.BoolLaws.{and-both, or-r, not-yes, decide}
 use Rattle.trees.specs.ListLaws.{first-lowest, first-nowhere, nowhere-first, Lowest}
@@ -48,7 +48,7 @@ module _ (n : ℕ) (r : List ℕ) where
         one = eqb-true _ _ (not-false _ (line-passes 7 (not (eqb (count (childOf r rootMark) (range n (nodes r))) 1)) (h .1 .1 .1 .1 .0)));
         filler = λ i a l. eqb-true _ _ (not-false _ (first-nowhere _ (nodes r + 1) (rowWords n) (h .1 .1 .1 .1 .1 .0) i (omega arith) l));
         reach = λ v l. not-false _ (first-nowhere _ 0 (nodes r) (h .1 .1 .1 .1 .1 .1 .0) v zero-le l);
-        two = λ v a l. ltb-false _ _ (first-nowhere _ n (nodes r) (h .1 .1 .1 .1 .1 .1 .1 .0) v a l);
+        child = λ v a l. ltb-false _ _ (first-nowhere _ n (nodes r) (h .1 .1 .1 .1 .1 .1 .1 .0) v a l);
       }
 
   pub valid-passed : Valid n r → Passed (judgeChecks n r)
@@ -67,7 +67,7 @@ module _ (n : ℕ) (r : List ℕ) where
               nowhere-first _ (nodes r + 1) (rowWords n) (λ w a l. rw (eq-eqb (getD r w 0) 0 (ok .filler w (omega arith) l))),
               (
                 nowhere-first _ 0 (nodes r) (λ v a l. rw (ok .reach v l)),
-                (nowhere-first _ n (nodes r) (λ v a l. le-ltb (children r v) 2 (ok .two v a l)), tt),
+                (nowhere-first _ n (nodes r) (λ v a l. le-ltb (children r v) fewestChildren (ok .child v a l)), tt),
               ),
             ),
           ),

@@ -95,7 +95,7 @@ module _ (n : ℕ) (r : List ℕ) (ok : Valid n r) (w : Wanted) where
   pair-bytes f v a h g = omega (
     arith,
     length-append (listed f (childrenOf n r v)) (closingByte ∷ markText r w v),
-    listed-length f (childrenOf n r v) (omega (arith, length-child n r ok v, ok .two v a h)),
+    listed-length f (childrenOf n r v) (omega (arith, length-child n r ok v, ok .child v a h)),
     total-same (λ c. length (f c) + 1) below (childrenOf n r v) g,
     below-pair v h,
     own-pair v a,

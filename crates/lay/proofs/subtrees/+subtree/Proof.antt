@@ -47,7 +47,7 @@ claims t = (
 )
 
 abbrev subtree-Inv-loop : subtree-lts.InvT-loop
-subtree-Inv-loop s at left kept₀ row₀ marks₀ a j₀ node₀ kept row marks j node = Paired s at left a kept₀ row₀ marks₀ j node kept row marks
+subtree-Inv-loop s at left kept₀ row₀ marks₀ a j₀ node₀ kept row marks j node = Paired s at left kept₀ row₀ marks₀ j node kept row marks
 
 abbrev subtree-μ-loop : subtree-lts.MeasureT-loop
 subtree-μ-loop s at left kept₀ row₀ marks₀ a j₀ node₀ kept row marks j node = length s - j
@@ -104,7 +104,7 @@ subtree-enum-told t c = search needs
 subtree-returns-3 : (t : ℕ) → subtree-lts.Need-returns-3 (claims t) (subtree-at t) subtree.Post subtree-Inv-loop subtree-μ-loop
 subtree-returns-3 t c =
     let g = c .enum-told .given in let S = c .before .before in let L = S .before .before .before .before in
-    rw (g .1) (loop-stops _ _ _ _ _ _ _ _ _ _ _ _ (L .loop .inv) _ (rw (g .1) at (S .subtree .ensures)))
+    rw (g .1) (loop-stops _ _ _ _ _ _ _ _ _ _ _ (L .loop .inv) _ (rw (g .1) at (S .subtree .ensures)))
 
 subtree-look-requires : (t : ℕ) → subtree-lts.Need-look-requires (claims t) (subtree-at t) subtree.Post subtree-Inv-loop subtree-μ-loop
 subtree-look-requires t c κs = search needs
@@ -114,22 +114,22 @@ subtree-close-requires t c κs =
     let K = c .before .before .before in let Q = K .before .before in let S = Q .before .before in
     let L = S .before .before .before .before in
     let W = rw (Q .p .given .1) at (S .subtree .ensures) in
-    let q = after-small _ _ _ _ _ _ _ _ _ _ _ _ (L .loop .inv) _ _ _ _ W in (W .lent .numbers, W .lent .words, q .2, q .0)
+    let q = after-small _ _ _ _ _ _ _ _ _ _ _ (L .loop .inv) _ _ _ _ W in (W .lent .numbers, W .lent .words, q .2, q .0)
 
 subtree-returns-4 : (t : ℕ) → subtree-lts.Need-returns-4 (claims t) (subtree-at t) subtree.Post subtree-Inv-loop subtree-μ-loop
 subtree-returns-4 t c =
     let T = c .before .before .before in let K = T .before in let Q = K .before .before in let S = Q .before .before in
     let L = S .before .before .before .before in let A = L .before .before .before .before in let st = A .before .before in
     let W = rw (Q .p .given .1) at (S .subtree .ensures) in
-    loop-closes _ _ _ _ _ _ _ _ _ _ _ _ (L .loop .inv) _ _ _ _ W _ (c .close .result) _ _ (omega arith)
-    (λ e. T .if1 .taken (K .look .ensures ∙ e)) (c .close .ensures) (st .pre .1 .1) (st .pre .1 .2)
+    loop-closes _ _ _ _ _ _ _ _ _ _ _ (L .loop .inv) _ _ _ _ W (c .close .result) _ _ (λ e. T .if1 .taken (K .look .ensures ∙ e))
+    (c .close .ensures) (st .pre .1 .1)
 
 subtree-comma-requires : (t : ℕ) → subtree-lts.Need-comma-requires (claims t) (subtree-at t) subtree.Post subtree-Inv-loop subtree-μ-loop
 subtree-comma-requires t c κs =
     let K = c .before .before .before in let Q = K .before .before in let S = Q .before .before in
     let L = S .before .before .before .before in
     let W = rw (Q .p .given .1) at (S .subtree .ensures) in
-    let q = after-small _ _ _ _ _ _ _ _ _ _ _ _ (L .loop .inv) _ _ _ _ W in (W .lent .numbers, W .lent .words, q .2, q .0, q .1)
+    let q = after-small _ _ _ _ _ _ _ _ _ _ _ (L .loop .inv) _ _ _ _ W in (W .lent .numbers, W .lent .words, q .2, q .0, q .1)
 
 subtree-add-j-2 : (t : ℕ) → subtree-lts.Need-add-j-2 (claims t) (subtree-at t) subtree.Post subtree-Inv-loop subtree-μ-loop
 subtree-add-j-2 t c =
@@ -137,21 +137,21 @@ subtree-add-j-2 t c =
     let L = S .before .before .before .before in
     let W = rw (Q .p .given .1) at (S .subtree .ensures) in
     let st = L .before .before .before .before .before .before in
-    omega (arith, st .good .0, comma-within _ _ _ _ _ _ _ _ _ _ _ _ (L .loop .inv) _ _ _ _ W _ (K .look .ensures) (E .if1 .left))
+    omega (arith, st .good .0, comma-within _ _ _ _ _ _ _ _ _ _ _ (L .loop .inv) _ _ _ _ W _ (K .look .ensures) (E .if1 .left))
 
 subtree-loop-less : (t : ℕ) → subtree-lts.Need-loop-less (claims t) (subtree-at t) subtree.Post subtree-Inv-loop subtree-μ-loop
 subtree-loop-less t c =
     let E = c .before .before .before in let K = E .before in let Q = K .before .before in let S = Q .before .before in
     let L = S .before .before .before .before in
     let W = rw (Q .p .given .1) at (S .subtree .ensures) in
-    loop-less _ _ _ _ _ _ _ _ _ _ _ _ (L .loop .inv) _ _ _ _ W _ (K .look .ensures) (E .if1 .left)
+    loop-less _ _ _ _ _ _ _ _ _ _ _ (L .loop .inv) _ _ _ _ W _ (K .look .ensures) (E .if1 .left)
 
 subtree-loop-again : (t : ℕ) → subtree-lts.Need-loop-again (claims t) (subtree-at t) subtree.Post subtree-Inv-loop subtree-μ-loop
 subtree-loop-again t c =
     let E = c .before .before .before in let K = E .before in let Q = K .before .before in let S = Q .before .before in
     let L = S .before .before .before .before in let A = L .before .before .before .before in let st = A .before .before in
     let W = rw (Q .p .given .1) at (S .subtree .ensures) in
-    loop-again _ _ _ _ _ _ _ _ _ _ _ _ (L .loop .inv) _ _ _ _ W _ (K .look .ensures) (E .if1 .left) _ _ _ (c .comma .ensures)
+    loop-again _ _ _ _ _ _ _ _ _ _ _ (L .loop .inv) _ _ _ _ W _ (K .look .ensures) (E .if1 .left) _ _ _ (c .comma .ensures)
     (st .pre .1 .1)
 
 pub +subtree-spec : {M : Type 1} → statement M

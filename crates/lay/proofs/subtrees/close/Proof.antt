@@ -43,7 +43,7 @@ shut-requires c κs = search needs
 returns-3 : tie.Need-returns-3
 returns-3 c =
     let C = c .before .before .before .before .before in let E = C .before in
-    closed-by _ _ _ _ _ _ (C .closes .result) _ _ (sym (E .before .look .ensures) ∙ E .if1 .left) (C .closes .ensures) (c .shut .ensures)
+    closed-by _ _ _ _ _ (C .closes .result) _ _ (sym (E .before .look .ensures) ∙ E .if1 .left) (C .closes .ensures) (c .shut .ensures)
 
 pub close-spec : {M : Type 1} → statement M
 close-spec =

@@ -1,18 +1,18 @@
--- `quick::branching::branching_counted` answers check 10: the inner nodes passed have children enough, so those that are left decide. Assumes nothing.
+-- `quick::branching::branching_counted` answers check 10: the inner nodes passed have a child, so those that are left decide. Assumes nothing.
 use Prim.Native.Nat.{_-_, zero-le}
 use mathlib.Core.Path.{refl, _∙_}
 use native.Mathlib.Omega.{arith}
 use Rattle.trees.specs.Rows.{nodes}
 use lib.Dec.{ltb}
 use borrow.Author.Tests.{lt-ltb, le-ltb}
-use Rattle.trees.specs.Checks.{children}
+use Rattle.trees.specs.Checks.{children, fewestChildren}
 use Rattle.trees.specs.ScanLaws.{ScanLeft, scan-start, scan-pass, scan-hit, scan-end}
 use borrow.Author.Needs.{needs}
 use Rattle.quick.proofs.branching.branching_counted.Statement.{statement}
 use Rattle.quick.proofs.branching.branching_counted.Tie as tie
 
 abbrev Inv-loop : tie.InvT-loop
-Inv-loop n row counts m v₀ v = ScanLeft (λ u. ltb (children row u) 2) n (nodes row) v
+Inv-loop n row counts m v₀ v = ScanLeft (λ u. ltb (children row u) fewestChildren) n (nodes row) v
 
 abbrev μ-loop : tie.MeasureT-loop
 μ-loop n row counts m v₀ v = m - v

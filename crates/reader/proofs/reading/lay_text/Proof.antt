@@ -3,7 +3,7 @@ use mathlib.Core.List.{[]}
 use mathlib.Core.Path.{sym, ap, _∙_}
 use Rattle.judge.specs.Verdicts.{verdict}
 use Rattle.reader.specs.StepLaws.{composed}
-use Rattle.reader.specs.ResultLaws.{unread-ready, lies-form, lies-18, lies-10, lies-accepted}
+use Rattle.reader.specs.ResultLaws.{unread-ready, lies-form, lies-18, lies-accepted}
 use borrow.Author.Needs.{needs}
 use Rattle.reader.proofs.reading.lay_text.Statement.{statement}
 use Rattle.reader.proofs.reading.lay_text.Tie as tie
@@ -42,41 +42,19 @@ returns-2 c =
     let q = c .enum-told3 .given .1 in
     rw q (lies-18 _ _ _ _ _ _ _ _ (st .pre .1) (st .pre .2) T _ _ [] (sym (ap verdict q) ∙ S .check-samples .ensures))
 
-element-copy-out-check-lone : tie.Need-element-copy-out-check-lone
-element-copy-out-check-lone c = search needs
-
-check-lone-requires : tie.Need-check-lone-requires
-check-lone-requires c κs = search needs
-
-enum-told-4 : tie.Need-enum-told-4
-enum-told-4 c = search needs
-
-enum-told-5 : tie.Need-enum-told-5
-enum-told-5 c = search needs
-
-returns-3 : tie.Need-returns-3
-returns-3 c =
-    let C = c .before .before in let A = C .before .before in let S = A .before .before in let N = S .before .before .before in
-    let W = N .before .before in let st = W .before .before .before .before .before in
-    let T = rw (N .enum-told .given .1) at (composed _ _ _ _ _ _ _ (W .whole .result) (W .whole .ensures)) in
-    let q = c .enum-told5 .given .1 in
-    rw q (lies-10 _ _ _ _ _ _ _ _ (st .pre .1) (st .pre .2) T (sym (ap verdict (A .enum-told2 .given .1)) ∙ S .check-samples .ensures)
-    _ _ [] (sym (ap verdict q) ∙ C .check-lone .ensures))
-
 finish-requires : tie.Need-finish-requires
 finish-requires c κs =
-    let D = c .before .before in let C = D .before .before in let A = C .before .before in let S = A .before .before in
-    let N = S .before .before .before in let W = N .before .before in let st = W .before .before .before .before .before in
+    let A = c .before .before in let S = A .before .before in let N = S .before .before .before in let W = N .before .before in
     let T = rw (N .enum-told .given .1) at (composed _ _ _ _ _ _ _ (W .whole .result) (W .whole .ensures)) in
     (T .lent .words, T .lays .small, T .lays .most)
 
-returns-4 : tie.Need-returns-4
-returns-4 c =
-    let D = c .before .before .before in let C = D .before .before in let A = C .before .before in let S = A .before .before in
-    let N = S .before .before .before in let W = N .before .before in let st = W .before .before .before .before .before in
+returns-3 : tie.Need-returns-3
+returns-3 c =
+    let A = c .before .before .before in let S = A .before .before in let N = S .before .before .before in let W = N .before .before in
+    let st = W .before .before .before .before .before in
     let T = rw (N .enum-told .given .1) at (composed _ _ _ _ _ _ _ (W .whole .result) (W .whole .ensures)) in
     lies-accepted _ _ _ _ _ _ _ _ (st .pre .1) (st .pre .2) T (sym (ap verdict (A .enum-told2 .given .1)) ∙ S .check-samples .ensures) _
-    (sym (ap verdict (D .enum-told4 .given .1)) ∙ C .check-lone .ensures) (c .finish .ensures)
+    (c .finish .ensures)
 
 pub lay-text-spec : {M : Type 1} → statement M
 lay-text-spec =
@@ -91,10 +69,5 @@ lay-text-spec =
     enum-told-2
     enum-told-3
     returns-2
-    element-copy-out-check-lone
-    check-lone-requires
-    enum-told-4
-    enum-told-5
-    returns-3
     finish-requires
-    returns-4)
+    returns-3)
