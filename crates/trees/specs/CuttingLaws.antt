@@ -6,11 +6,11 @@ use mathlib.Core.List.{List, [], _∷_, _++_}
 use mathlib.Core.Bool.{Bool, true, false, false≢true}
 use native.Mathlib.Nat.{zero-add}
 use native.Mathlib.Omega.{arith}
-use lib.Dec.{eqb}
+use lib.Dec.{eqb, ltb}
 use lib.ListN.{length, getD, length-append, List·getD-append}
 use lib.Seq.{getD-append-add}
-use borrow.Author.Tests.{eqb-true, eqb-false, eq-eqb, ne-eqb, lt-ltb, le-ltb}
-use Rattle.trees.specs.Lists.{tabulate, zeros, range, count}
+use borrow.Author.Tests.{eqb-true, eqb-false, eq-eqb, ne-eqb, ltb-true, ltb-false, lt-ltb, le-ltb}
+use Rattle.trees.specs.Lists.{Place, nowhere, at, tabulate, zeros, range, first, count}
 use Rattle.trees.specs.Groups.{Group, has, size, member}
 use Rattle.trees.specs.Rows.{nodes, parent, rootMark, childOf, meets, ends, groupAt, groups}
 use Rattle.trees.specs.Checks.{rowWords, children}
@@ -20,7 +20,7 @@ use Rattle.trees.specs.Numbering.{renumbered}
 use Rattle.trees.specs.Cutting.{newNumber, oldNumber, parentPast, cutWord, cut, Cuts, uncut, then}
 use Rattle.trees.specs.BoolLaws.{true-eq, decide}
 use Rattle.trees.specs.ListLaws.{length-tabulate, getD-tabulate, length-zeros, getD-zeros, in-range, range-in}
-use Rattle.trees.specs.ListLaws.{weigh-one, weigh-found, count-two, count-beside}
+use Rattle.trees.specs.ListLaws.{first-lowest, first-nowhere, weigh-one, weigh-found, count-two, count-beside}
 use Rattle.trees.specs.NeverLaws.{Tri, less, equal, more, tri, side}
 use Rattle.trees.specs.GroupLaws.{group-ext, size-whole, single-small}
 use Rattle.trees.specs.WayLaws.{Met, here, up, met-to, met-from, meets-refl, meets-zero, meets-more, meets-less}
@@ -431,3 +431,22 @@ module _ (n : ℕ) where
   -- WITH AND WITHOUT SINGLE BRANCHES A TREE IS STORED AS THE SAME WORDS (RULES D2, 4.5)
   pub cuts-stored : {r q : List ℕ} → Cuts n r q → Valid n r → renumbered n q ≡ renumbered n r
   cuts-stored c ok = renumbered-same n _ _ (cuts-groups c ok)
+
+  cuts-from : (k : ℕ) (r : List ℕ) → Valid n r → nodes r ≤ k
+      → (q : List ℕ) × Cuts n r q × ((v : ℕ) → n ≤ v → v < nodes q → 2 ≤ children q v)
+  cuts-from zero r ok h = absurd (omega (arith, ok .low))
+  cuts-from (suc k) r ok h = go (first (λ v. ltb (children r v) 2) (range n (nodes r))) refl (λ p l. cuts-from k p l)
+    where
+      go : (p : Place) → first (λ v. ltb (children r v) 2) (range n (nodes r)) ≡ p
+          → ((p : List ℕ) → Valid n p → nodes p ≤ k → (q : List ℕ) × Cuts n p q × ((v : ℕ) → n ≤ v → v < nodes q → 2 ≤ children q v))
+          → (q : List ℕ) × Cuts n r q × ((v : ℕ) → n ≤ v → v < nodes q → 2 ≤ children q v)
+      go nowhere e rest = (r, uncut, λ v a b. ltb-false _ _ (first-nowhere _ n (nodes r) e v a b))
+      go (at v) e rest =
+          let w = first-lowest _ n (nodes r) v e in
+          let one : children r v ≡ 1 = omega (arith, ok .child v (w .from) (w .to), ltb-true (children r v) 2 (w .passes)) in
+          let t = rest (cut n r v) (cut-valid n r v ok (w .from) (w .to) one) (omega (arith, cut-nodes n r v ok (w .from) (w .to))) in
+          (t .0, then v (w .from) (w .to) one (t .1), t .2)
+
+  -- ALL OF THEM CAN BE TAKEN OUT
+  pub cuts-all : (r : List ℕ) → Valid n r → (q : List ℕ) × Cuts n r q × ((v : ℕ) → n ≤ v → v < nodes q → 2 ≤ children q v)
+  cuts-all r ok = cuts-from (nodes r) r ok (omega arith)

@@ -57,7 +57,6 @@ pub mod RankLaws
 pub mod Choosing
 pub mod ChoosingLaws
 pub mod RenamingLaws
-pub mod Singles
 pub mod SingleLaws
 pub mod Cutting
 pub mod CuttingLaws

@@ -1,30 +1,32 @@
--- Single branches add no group: without them a row has the same groups, each once, and renumbering leaves a node for each. Assumes nothing.
+-- A single branch has the group of its child, and renumbering leaves the inner nodes that are none. Assumes nothing.
 use Prim.Native.Nat.{ℕ, zero, suc, _+_, _≤_, _<_, zero-le}
 use mathlib.Core.Path.{_≡_, refl, sym, ap, _∙_}
 use mathlib.Core.Logic.{_⊎_, inl, inr, ⊎-elim}
 use mathlib.Core.List.{List, [], _∷_}
-use mathlib.Core.Bool.{true, false, false≢true}
+use mathlib.Core.Bool.{Bool, true, false, _||_, false≢true}
 use native.Mathlib.Nat.{zero-add}
 use native.Mathlib.Omega.{arith}
 use lib.Dec.{eqb, ltb, leb}
 use borrow.Author.Tests.{eqb-true, eqb-false, eq-eqb, ltb-true, ltb-false, leb-true, leb-false}
 use Rattle.trees.specs.Lists.{tabulate, range, first, weigh, count}
-use Rattle.trees.specs.Groups.{Group, size, same, listFirst, before, member}
-use Rattle.trees.specs.Rows.{nodes, parent, childOf, meets, ends, groupAt, groups, inner}
+use Rattle.trees.specs.Groups.{size, same, listFirst, before}
+use Rattle.trees.specs.Rows.{nodes, parent, childOf, meets, ends, groupAt, inner}
 use Rattle.trees.specs.Checks.{accepted, _⊳_, children, rowChecks, judgeChecks, judged}
-use Rattle.trees.specs.Valid.{Valid, In, inOrder, standard}
+use Rattle.trees.specs.Valid.{Valid, inOrder, standard}
 use Rattle.trees.specs.Numbering.{renumbered}
 use Rattle.trees.specs.Choosing.{OneEach}
-use Rattle.trees.specs.Singles.{proper, properGroups}
-use Rattle.trees.specs.BoolLaws.{or-cases, or-r, true-eq, decide}
-use Rattle.trees.specs.ListLaws.{count-two, in-range, range-in}
+use Rattle.trees.specs.BoolLaws.{or-cases, or-r, decide}
+use Rattle.trees.specs.ListLaws.{count-two, range-in}
 use Rattle.trees.specs.GroupLaws.{Within, within-size, within-eq}
 use Rattle.trees.specs.WayLaws.{ends-up, ends-none}
-use Rattle.trees.specs.RowLaws.{Above, length-group, group-has, in-group, in-groups, groups-in, no-mark, above-trans, step-down}
-use Rattle.trees.specs.RowLaws.{child-inner}
-use Rattle.trees.specs.RowLaws.{child-within, valid-rooted, some-child, leaf-beside, two-samples}
+use Rattle.trees.specs.RowLaws.{Above, length-group, group-has, in-group, no-mark, above-trans, step-down}
+use Rattle.trees.specs.RowLaws.{child-inner, child-within, valid-rooted, some-child, leaf-beside, two-samples}
 use Rattle.trees.specs.NodeLaws.{in-line, big-inner}
-use Rattle.trees.specs.ChoosingLaws.{in-chosen, chosen-in, one-each-nodes}
+use Rattle.trees.specs.ChoosingLaws.{one-each-nodes}
+
+-- whether a node is no single branch: it is a sample, or has two children or more
+abbrev proper : ℕ → List ℕ → ℕ → Bool
+proper n r v = ltb v n || leb 2 (children r v)
 
 module _ (n : ℕ) (r : List ℕ) (ok : Valid n r) where
   pub only-child : (v c d : ℕ) → children r v < 2 → c < nodes r → d < nodes r → parent r c ≡ v → parent r d ≡ v → c ≡ d
@@ -70,21 +72,6 @@ module _ (n : ℕ) (r : List ℕ) (ok : Valid n r) where
   proper-of : (v : ℕ) → v < nodes r → (u : ℕ) × (u < nodes r) × (proper n r u ≡ true) × (groupAt n r u ≡ groupAt n r v)
   proper-of v h = proper-from (nodes r) 0 v (zero-add _) h (ends-none r v)
 
-  -- WITHOUT ITS SINGLE BRANCHES A ROW HAS THE SAME GROUPS
-  pub proper-groups : (x : Group) → member x (properGroups n r) ≡ member x (groups n r)
-  proper-groups x = true-eq _ _ to from
-    where
-      to : In x (properGroups n r) → In x (groups n r)
-      to m = let t = in-chosen (proper n r) (groupAt n r) (range 0 (nodes r)) x m in
-          rw (← (t .3)) (groups-in n r (t .0) (in-range 0 (nodes r) (t .0) (t .1) .1))
-
-      from : In x (groups n r) → In x (properGroups n r)
-      from m =
-          let t = in-groups n r x m in
-          let u = proper-of (t .0) (t .1) in
-          rw (← (t .2), ← (u .3))
-          (chosen-in (proper n r) (groupAt n r) (range 0 (nodes r)) (u .0) (range-in 0 (nodes r) (u .0) zero-le (u .1)) (u .2))
-
   -- a node that is no single branch has a larger group than those below it
   proper-above : (v w : ℕ) → v < nodes r → w < nodes r → proper n r v ≡ true → (w ≡ v → ⊥) → Above r v w → groupAt n r v ≡ groupAt n r w → ⊥
   proper-above v w h k p x m e =
@@ -97,8 +84,8 @@ module _ (n : ℕ) (r : List ℕ) (ok : Valid n r) where
       b .3 (above-trans n r up (t .0) w (b .0) (omega (arith, ok .low))
       (group-has n r w (b .0) (rw (← e) (in-group n r v (b .0) (b .1) (b .2))) .1) (t .3))
 
-  -- AND EACH OF THEM ONCE
-  pub proper-once : (v w : ℕ) → v < nodes r → w < nodes r → proper n r v ≡ true → proper n r w ≡ true → groupAt n r v ≡ groupAt n r w
+  -- so no two of these nodes have one group
+  proper-once : (v w : ℕ) → v < nodes r → w < nodes r → proper n r v ≡ true → proper n r w ≡ true → groupAt n r v ≡ groupAt n r w
       → v ≡ w
   proper-once v w h k p q e = ⊎-elim (eqb-true v w) (λ d. absurd (other (eqb-false v w d))) (decide (eqb v w))
     where
