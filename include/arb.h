@@ -42,13 +42,13 @@
  *
  *     (((0,1)2,2)2,(3,4)2);
  *
- * A text is one subtree and a semicolon. A subtree is a sample, in one to five digits of which the first is not 0 if more follow, or a pair:
- * one subtree or several in round brackets, with commas between them. At most 511 brackets are open at once. Behind a closing bracket digits
- * may stand, a support say, and behind any subtree a colon and a length: digits, with at most one point among them, which has a digit on each
- * side. Reading drops both, and the brackets of a pair that holds one subtree. Blanks, which are space, tab, CR and LF, may stand before and behind all of these, but not inside a number.
- * Nothing else is of the form: no names, quotes or comments, no signs, no exponents. A text is counted in bytes and has no end mark: a 0 byte
- * is not of the form either. Any bytes may be handed in, and any number of them. What is written has no blanks, and the children of a node
- * stand in it by their smallest samples.
+ * A text is one subtree and a semicolon. A subtree is a sample, in one to five digits of which the first is not 0 if more follow, or a
+ * pair: one subtree or several in round brackets, with commas between them. At most 511 brackets are open at once. Behind a closing bracket
+ * digits may stand, a support say, and behind any subtree a colon and a length: digits, with at most one point among them, which has a
+ * digit on each side. Reading drops both, and the brackets of a pair that holds one subtree. Blanks, which are space, tab, CR and LF, may
+ * stand before and behind all of these, but not inside a number. Nothing else is of the form: no names, quotes or comments, no signs, no
+ * exponents. A text is counted in bytes and has no end mark: a 0 byte is not of the form either. Any bytes may be handed in, and any number
+ * of them. What is written has no blanks, and the children of a node stand in it by their smallest samples.
  *
  * BUFFERS. Each is a pointer and its length: of a text in bytes, of all others in 16-bit words. The pointer is valid for that many bytes or
  * words, and one to words is aligned for uint16_t; it may be NULL only where the length is 0. A buffer that a call writes (its pointer is not

@@ -4,14 +4,14 @@ use mathlib.Core.Path.{_≡_, refl, sym, ap, _∙_}
 use mathlib.Core.List.{List, [], _∷_, _++_, List·Memᴰ, List·Memᴰ·head, List·Memᴰ·tail}
 use mathlib.Core.Bool.{Bool, true, false, _&&_, cond}
 use native.Mathlib.Omega.{arith}
-use lib.Dec.{eqb, ltb, leb}
+use lib.Dec.{leb}
 use lib.ListN.{length, drop}
-use borrow.Author.Tests.{leb-true, eq-eqb, lt-ltb}
+use borrow.Author.Tests.{leb-true, eq-eqb}
 use Rattle.trees.specs.Lists.{tabulate, filter, first, weigh}
 use Rattle.trees.specs.Groups.{size, lowest, same, listFirst, before, member}
 use Rattle.trees.specs.Rows.{nodes, parent, meets, ends, groupAt, groups, inner}
 use Rattle.trees.specs.Lists.{nowhere}
-use Rattle.trees.specs.Checks.{Verdict, accepted, refused, wrote, Check, _⊳_, rowWords, outside, check1, rowChecks, judgeChecks, judged}
+use Rattle.trees.specs.Checks.{Verdict, accepted, refused, wrote, _⊳_, rowWords, outside, check1, rowChecks, judgeChecks, judged}
 use Rattle.trees.specs.Valid.{isAccepted, inOrder, standard}
 use Rattle.trees.specs.Numbering.{enter, ordered, groupSet, lastWith, parents, rowOf, renumbered}
 use Rattle.trees.specs.Comparing.{nontrivial, compared}
@@ -42,17 +42,18 @@ use Rattle.newick.specs.Walk.{parsed, walk, final, step, entered, begun, longer
 use Rattle.newick.specs.Meaning.{samplesIn, groupOf, groupsOf, groupsIn, above}
 use Rattle.newick.specs.Meaning as meaning
 use Rattle.newick.specs.ReadCalls.{treeIn, textChecks, readChecks, rowIn, reading}
-use Rattle.newick.specs.RowText.{Wanted, Fitting, gather, byLowest, childrenOf, commas, listed, nodeText, written, check3Wanted, checkRoom, writeChecks, writing}
+use Rattle.newick.specs.RowText.{Wanted, Fitting, gather, byLowest, childrenOf, commas, listed, nodeText, written, writeChecks, writing}
 use Rattle.newick.specs.RowText.Wanted.{plain, with-words}
 use Rattle.newick.specs.WriteLaws.{writing-accepts, writing-bytes}
 use Rattle.arb.specs.Specimens.{Says, renumbers, nodesGive, RunsGive, leaves, fills, shows, AllSay, nothing, _and_, run, row01, row02}
 use Rattle.arb.specs.Specimens.{caseRuns, trivialRow, trivialSupports, threeRuns, twoRuns, specimens, bareRow, overOne, chainAtRoot}
-use Rattle.arb.specs.Specimens.{chainInside, chainOut, chainWords, oneRun, branchStored}
+use Rattle.arb.specs.Specimens.{chainInside, chainOut, chainWords, oneRun}
 
 -- ---- renumbering
 
 -- a row that judging accepts is renumbered, whatever the output held
-renumbers-so : (n : ℕ) (r q out : List ℕ) → judged n r ≡ accepted → renumbered n r ≡ q → length out ≡ rowWords n → renumbering n r out ≡ leaves q
+renumbers-so : (n : ℕ) (r q out : List ℕ) → judged n r ≡ accepted → renumbered n r ≡ q → length out ≡ rowWords n
+    → renumbering n r out ≡ leaves q
 unfolding renumbering
 renumbers-so n r q out ok e l = ap left (renumbering-accepts n r out .1 (judged-valid n r ok, l)) ∙ ap leaves e
   where
@@ -98,7 +99,12 @@ record Shows (words : List ℕ) (p : ℕ) (a s : List ℕ) : Type 0 where
 reports-so : (n : ℕ) (rs : List Run) (words : List ℕ) (p : ℕ) (a s : List ℕ) → Stores n rs words → Shows words p a s
     → (w x y : List ℕ) → length w ≡ length words → length x ≡ rowWords n → length y ≡ rowWords n → RunsGive n rs words p a s w x y
 unfolding reported
-reports-so n rs words p a s c f w x y l d e = record { opens = opens; takes = filled-takes n w rs opens (c .once) fit few; stores = same; report = shown }
+reports-so n rs words p a s c f w x y l d e = record {
+  opens = opens;
+  takes = filled-takes n w rs opens (c .once) fit few;
+  stores = same;
+  report = shown;
+}
   where
     opens : opened n w .verdict ≡ accepted
     opens = opened-accepts n w .1 (c .opens w l)
@@ -149,7 +155,8 @@ unread-so : (n : ℕ) (l : List ℕ) (v : Verdict) → check1 n .fault ≡ nowhe
 unfolding reading
 unread-so n l v a e out f = text-decides n l out v a e f
 
-reads-so : (n : ℕ) (l r : List ℕ) → check1 n .fault ≡ nowhere → Makes n l r → (out : List ℕ) → length out ≡ rowWords n → reading n l out ≡ leaves r
+reads-so : (n : ℕ) (l r : List ℕ) → check1 n .fault ≡ nowhere → Makes n l r → (out : List ℕ) → length out ≡ rowWords n
+    → reading n l out ≡ leaves r
 unfolding reading
 reads-so n l r a e out f = ap left (text-decides n l out accepted a (e .0) f) ∙ ap leaves (e .1)
   where
@@ -165,28 +172,33 @@ unfolding textChecks rowIn _⊳_ parsed walk final step entered begun longer shu
     filter tabulate first weigh size lowest before same listFirst enter ordered lastWith parents rowOf
 texts-read = ((refl, refl), (refl, refl), (refl, refl), (refl, refl), (refl, refl), (refl, refl), (refl, refl), (refl, refl))
 
-texts-unread : Comes 2 (ascii "(0,1") (refused 17 4) × Comes 2 (ascii "(00,1);") (refused 17 2) × Comes 2 (ascii "(0,123456);") (refused 17 8)
+texts-unread : Comes 2 (ascii "(0,1") (refused 17 4) × Comes 2 (ascii "(00,1);") (refused 17 2)
+    × Comes 2 (ascii "(0,123456);") (refused 17 8)
     × Comes 2 (ascii "(0 1);") (refused 17 3) × Comes 2 (ascii "(0,1):.5;") (refused 17 6) × Comes 2 (ascii "();") (refused 17 1)
     × Comes 2 (ascii "(0,0);") (refused 18 0) × Comes 2 (ascii "(0,2);") (refused 18 1) × Comes 2 (ascii "(0,1,7);") (refused 18 7)
     × Comes 2 (ascii "0;") (refused 18 1)
-unfolding textChecks _⊳_ parsed walk final step entered begun longer shut next last kindOf depth meaning.samples samplesIn above tabulate first weigh
+unfolding textChecks _⊳_ parsed walk final step entered begun longer shut next last kindOf depth meaning.samples samplesIn above tabulate
+    first weigh
 texts-unread = (refl, refl, refl, refl, refl, refl, refl, refl, refl, refl)
 
 -- the text of a valid row, in a buffer that is long enough
 writes-so : (n : ℕ) (r : List ℕ) (w : Wanted) (l : List ℕ) → judged n r ≡ accepted → Fitting n w → written n r w ≡ l
     → (text : List ℕ) → length l ≤ length text → writing n r w text ≡ fills l text
 writes-so n r w l ok f e text h =
-    let a : writing n r w text .verdict ≡ wrote (length l) = writing-accepts n r w text (length l) .1 (judged-valid n r ok, f, ap length (sym e), rw e h) in
+    let a : writing n r w text .verdict ≡ wrote (length l) = writing-accepts n r w text (length l) .1
+    (judged-valid n r ok, f, ap length (sym e), rw e h) in
     let b = writing-bytes n r w text (length l) a .1 in
     outcome-same (writing n r w text) (wrote (length l)) (l ++ drop (length l) text) a (b ∙ rw e refl)
   where
     outcome-same : (o : Outcome) (v : Verdict) (ws : List ℕ) → o .verdict ≡ v → o .words ≡ ws → o ≡ record { verdict = v; words = ws }
     outcome-same o v ws p q = rw (← p, ← q) refl
 
-texts-written : (written 5 agreedRow (with-words supportRow) ≡ ascii "(((0,1)2,2)2,(3,4)2);") × (written 5 agreedRow plain ≡ ascii "(((0,1),2),(3,4));")
+texts-written : (written 5 agreedRow (with-words supportRow) ≡ ascii "(((0,1)2,2)2,(3,4)2);")
+    × (written 5 agreedRow plain ≡ ascii "(((0,1),2),(3,4));")
     × (written 3 overOne plain ≡ ascii "((0),1,2);") × (written 3 chainAtRoot plain ≡ ascii "((0,1,2));")
     × (written 4 chainInside plain ≡ ascii "(((0,1)),2,3);") × (written 4 chainInside (with-words chainWords) ≡ ascii "(((0,1)8)7,2,3);")
-unfolding written nodeText listed commas childrenOf byLowest gather filter tabulate first weigh nodes parent meets groupAt lowest decimal digits
+unfolding written nodeText listed commas childrenOf byLowest gather filter tabulate first weigh nodes parent meets groupAt lowest decimal
+    digits
 texts-written = (refl, refl, refl, refl, refl, refl)
 
 -- 20 bytes are one too few for the first
@@ -197,7 +209,8 @@ too-short text e = rw (e, texts-written .0) refl
 -- ---- the table
 
 three-runs : Stores 5 caseRuns threeRuns
-unfolding tabulate filter first weigh size lowest same listFirst before member nodes parent meets ends groupAt groups _⊳_ rowChecks judgeChecks judged
+unfolding tabulate filter first weigh size lowest same listFirst before member nodes parent meets ends groupAt groups _⊳_ rowChecks
+    judgeChecks judged
     enter ordered groupSet lastWith parents rowOf renumbered every find insertRun gathered slots encode runs capacity
 three-runs = record {
   opens = λ w l. record { least = omega arith; most = omega arith; one = rw l (omega arith) };
@@ -211,7 +224,8 @@ three-runs = record {
 }
 
 two-runs : Stores 3 (run 1 row01 ∷ run 2 row02 ∷ []) twoRuns
-unfolding tabulate filter first weigh size lowest same listFirst before member nodes parent meets ends groupAt groups _⊳_ rowChecks judgeChecks judged
+unfolding tabulate filter first weigh size lowest same listFirst before member nodes parent meets ends groupAt groups _⊳_ rowChecks
+    judgeChecks judged
     enter ordered groupSet lastWith parents rowOf renumbered every find insertRun gathered slots encode runs capacity
 two-runs = record {
   opens = λ w l. record { least = omega arith; most = omega arith; one = rw l (omega arith) };
@@ -224,8 +238,9 @@ two-runs = record {
   some = omega arith;
 }
 
-one-run : Stores 3 (run 1 overOne ∷ []) oneRun
-unfolding tabulate filter first weigh size lowest same listFirst before member nodes parent meets ends groupAt groups _⊳_ rowChecks judgeChecks judged
+one-run : Stores 3 (run 1 overOne ∷ []) (oneRun 3 bareRow)
+unfolding tabulate filter first weigh size lowest same listFirst before member nodes parent meets ends groupAt groups _⊳_ rowChecks
+    judgeChecks judged
     enter ordered groupSet lastWith parents rowOf renumbered every find insertRun gathered slots encode runs capacity
 one-run = record {
   opens = λ w l. record { least = omega arith; most = omega arith; one = rw l (omega arith) };
@@ -238,11 +253,13 @@ one-run = record {
   some = omega arith;
 }
 
--- the row that is stored has a node above one sample
-branch-stored : wellFormed branchStored ≡ false
-unfolding wellFormed standard tabulate first weigh nodes parent meets ends groupAt inner _⊳_ rowChecks judgeChecks judged inOrder before size same listFirst
+-- the rows that are stored have single branches
+branches-stored : (wellFormed (oneRun 3 overOne) ≡ false) × (wellFormed (oneRun 3 chainAtRoot) ≡ false)
+    × (wellFormed (oneRun 4 chainInside) ≡ false)
+unfolding wellFormed standard tabulate first weigh nodes parent meets ends groupAt inner _⊳_ rowChecks judgeChecks judged inOrder before
+    size same listFirst
     every runs slots rising sameWords capacity
-branch-stored = refl
+branches-stored = (refl, refl, refl)
 
 three-shown : Shows threeRuns 0 agreedRow supportRow × Shows threeRuns 50 agreedRow supportRow × Shows threeRuns 66 agreedRow supportRow
     × Shows threeRuns 67 trivialRow trivialSupports × Shows threeRuns 100 trivialRow trivialSupports
@@ -261,13 +278,14 @@ unfolding tabulate filter weigh size lowest same listFirst before member nodes p
     enter ordered lastWith parents rowOf support total held shown agreed supportsOf runs threshold isShown
 two-shown = record { inRange = (omega arith, omega arith); row = refl; counts = refl }
 
-one-shown : Shows oneRun 0 bareRow (1 ∷ 1 ∷ 1 ∷ 1 ∷ 1 ∷ 0 ∷ [])
+one-shown : Shows (oneRun 3 bareRow) 0 bareRow (1 ∷ 1 ∷ 1 ∷ 1 ∷ 1 ∷ 0 ∷ [])
 unfolding tabulate filter weigh size lowest same listFirst before member nodes parent meets groupAt groups
     enter ordered lastWith parents rowOf support total held shown agreed supportsOf runs threshold isShown
 one-shown = record { inRange = (omega arith, omega arith); row = refl; counts = refl }
 
 branches-out : Says (renumbers 3 overOne bareRow) × Says (renumbers 3 chainAtRoot bareRow) × Says (renumbers 4 chainInside chainOut)
-unfolding tabulate filter first weigh size lowest same listFirst before member nodes parent meets ends groupAt groups _⊳_ rowChecks judgeChecks judged
+unfolding tabulate filter first weigh size lowest same listFirst before member nodes parent meets ends groupAt groups _⊳_ rowChecks
+    judgeChecks judged
     enter ordered groupSet lastWith parents rowOf renumbered
 branches-out = (
   λ out. renumbers-so 3 overOne bareRow out refl refl,
@@ -276,7 +294,8 @@ branches-out = (
 )
 
 one-tree : Says (renumbers 3 (5 ∷ 3 ∷ 3 ∷ 4 ∷ 4 ∷ 65535 ∷ []) row01)
-unfolding tabulate filter first weigh size lowest same listFirst before member nodes parent meets ends groupAt groups _⊳_ rowChecks judgeChecks judged
+unfolding tabulate filter first weigh size lowest same listFirst before member nodes parent meets ends groupAt groups _⊳_ rowChecks
+    judgeChecks judged
     enter ordered groupSet lastWith parents rowOf renumbered
 one-tree out = renumbers-so 3 (5 ∷ 3 ∷ 3 ∷ 4 ∷ 4 ∷ 65535 ∷ []) row01 out refl refl
 
@@ -335,7 +354,9 @@ specimens-hold =
     and branches-out .2
     and refl
     and reports-so 3 _ _ _ _ _ one-run one-shown
-    and branch-stored
+    and branches-stored .0
+    and branches-stored .1
+    and branches-stored .2
     and writes-so 3 overOne plain _ refl tt (texts-written .2)
     and writes-so 3 chainAtRoot plain _ refl tt (texts-written .3)
     and writes-so 4 chainInside plain _ refl tt (texts-written .4)

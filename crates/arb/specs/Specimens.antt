@@ -54,16 +54,17 @@ pub record RunsGive (n : ℕ) (rs : List Run) (words : List ℕ) (p : ℕ) (a s 
   pub report : reported words p x y ≡ shows a s
 
 -- judging or comparing these words answers this; it is the only tree over n samples; a row of 2n words that begins with m is judged so,
--- whatever its other words are; renumbering these words leaves those, whatever the output held; so does reporting on runs that were added;
--- these words are no study that is well formed; reading this text leaves these words, or answers this; writing this row leaves this text in front, in any buffer that is as long or longer,
--- or answers this, in any buffer of so many bytes
+-- whatever its other words are; renumbering these words leaves those, whatever the output held; so does reporting on runs that were
+-- added; these words are no study that is well formed; reading this text leaves these words, or answers this; writing this row leaves
+-- this text in front, in any buffer that is as long or longer, or answers this, in any buffer of so many bytes
 abbrev pub Says : Specimen → Type 0
 Says (judges n r v) = judged n r ≡ v
 Says (onlyTree n r) = (q : List ℕ) → judged n q ≡ accepted → q ≡ r
 Says (nodesGive n m v) = (ws : List ℕ) → length (m ∷ ws) ≡ rowWords n → judged n (m ∷ ws) ≡ v
 Says (renumbers n r q) = (out : List ℕ) → length out ≡ rowWords n → renumbering n r out ≡ leaves q
 Says (compares n r q v) = comparing n r q ≡ v
-Says (reports n rs words p a s) = (w x y : List ℕ) → length w ≡ length words → length x ≡ rowWords n → length y ≡ rowWords n → RunsGive n rs words p a s w x y
+Says (reports n rs words p a s) = (w x y : List ℕ) → length w ≡ length words → length x ≡ rowWords n → length y ≡ rowWords n
+    → RunsGive n rs words p a s w x y
 Says (unformed words) = wellFormed words ≡ false
 Says (reads n l r) = (out : List ℕ) → length out ≡ rowWords n → reading n l out ≡ leaves r
 Says (unread n l v) = (out : List ℕ) → length out ≡ rowWords n → reading n l out .verdict ≡ v
@@ -123,12 +124,9 @@ threeRuns = (65 ∷ 82 ∷ 66 ∷ 1 ∷ 5 ∷ 3 ∷ 0 ∷ 0 ∷ []) ++ (1 ∷ ro
 abbrev pub twoRuns : List ℕ
 twoRuns = (65 ∷ 82 ∷ 66 ∷ 1 ∷ 3 ∷ 2 ∷ 0 ∷ 0 ∷ []) ++ (1 ∷ row01) ++ (2 ∷ row02)
 
--- a study over three samples with one run, which is stored without its single branch; and with it, which no call writes
-abbrev pub oneRun : List ℕ
-oneRun = (65 ∷ 82 ∷ 66 ∷ 1 ∷ 3 ∷ 1 ∷ 0 ∷ 0 ∷ []) ++ (1 ∷ bareRow)
-
-abbrev pub branchStored : List ℕ
-branchStored = (65 ∷ 82 ∷ 66 ∷ 1 ∷ 3 ∷ 1 ∷ 0 ∷ 0 ∷ []) ++ (1 ∷ overOne)
+-- a study over n samples with one run
+abbrev pub oneRun : ℕ → List ℕ → List ℕ
+oneRun n r = (65 ∷ 82 ∷ 66 ∷ 1 ∷ n ∷ 1 ∷ 0 ∷ 0 ∷ []) ++ (1 ∷ r)
 
 abbrev pub specimens : List Specimen
 specimens =
@@ -189,8 +187,10 @@ specimens =
     ∷ renumbers 3 chainAtRoot bareRow
     ∷ renumbers 4 chainInside chainOut
     ∷ compares 4 chainInside chainOut (counted 1 0 0)
-    ∷ reports 3 (run 1 overOne ∷ []) oneRun 0 bareRow (1 ∷ 1 ∷ 1 ∷ 1 ∷ 1 ∷ 0 ∷ [])
-    ∷ unformed branchStored
+    ∷ reports 3 (run 1 overOne ∷ []) (oneRun 3 bareRow) 0 bareRow (1 ∷ 1 ∷ 1 ∷ 1 ∷ 1 ∷ 0 ∷ [])
+    ∷ unformed (oneRun 3 overOne)
+    ∷ unformed (oneRun 3 chainAtRoot)
+    ∷ unformed (oneRun 4 chainInside)
     ∷ writes 3 overOne plain (ascii "((0),1,2);")
     ∷ writes 3 chainAtRoot plain (ascii "((0,1,2));")
     ∷ writes 4 chainInside plain (ascii "(((0,1)),2,3);")
