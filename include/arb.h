@@ -10,12 +10,12 @@
  *     word 1+v, v below m     the parent of node v: an inner node, or ARB_ROOT_MARK where v is the root, which is an inner node too
  *     all others              0, as filler
  *
- * There is one root, each node leads up to it, and each inner node has a child. Inner nodes of a row that you hand in may be numbered in any
- * order, and may have one child each. To the group of a node belong the samples that are the node itself or stand below it; two rows are the
- * same tree if they have the same groups. Rows that the library writes or stores are in standard numbering: inner nodes get their numbers,
- * from n on, in the order of their groups, larger ones first, and of groups with the same size the one with the smaller smallest sample first;
- * each group has one node, so that no inner node has one child. So the root is node n, and the same tree has the same words. The tree
- * ((0,1),2), n = 3:
+ * There is one root, each node leads up to it, and each inner node has a child or more. Inner nodes of a row that you hand in may be
+ * numbered in any order, and some may have a single child. To the group of a node belong the samples that are the node itself or stand
+ * below it; two rows are the same tree if they have the same groups. Rows that the library writes or stores are in standard numbering:
+ * inner nodes get their numbers, from n on, in the order of their groups, larger ones first, and of groups with the same size the one with
+ * the smaller smallest sample first; each group has one node, so that no inner node has one child. So the root is node n, and the same tree
+ * has the same words. The tree ((0,1),2), n = 3:
  *
  *     5 4 4 3 65535 3     in standard numbering: 3 is the root, and 4, the parent of samples 0 and 1, stands below it
  *     5 3 3 4 4 65535     the same tree with 3 and 4 the other way round

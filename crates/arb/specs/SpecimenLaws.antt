@@ -33,7 +33,7 @@ use Rattle.runs.specs.CallLaws.{Opens, opened-accepts}
 use Rattle.runs.specs.HistoryLaws.{study-kept}
 use Rattle.runs.specs.FreshLaws.{Fit, gathered, filled-takes, filled-words}
 use Rattle.runs.specs.ReportLaws.{reported-accepts}
-use Rattle.trees.specs.Case.{agreedRow, supportRow}
+use Rattle.trees.specs.Case.{agreedRow, supportRow, bareOf3, overOne, chainAtRoot, pairOf4, chainInside}
 use Rattle.ascii.specs.Ascii.{ascii}
 use Rattle.ascii.specs.Decimal.{digits, decimal}
 use Rattle.newick.specs.Bytes.{kindOf}
@@ -46,8 +46,7 @@ use Rattle.newick.specs.RowText.{Wanted, Fitting, gather, byLowest, childrenOf,
 use Rattle.newick.specs.RowText.Wanted.{plain, with-words}
 use Rattle.newick.specs.WriteLaws.{writing-accepts, writing-bytes}
 use Rattle.arb.specs.Specimens.{Says, renumbers, nodesGive, RunsGive, leaves, fills, shows, AllSay, nothing, _and_, run, row01, row02}
-use Rattle.arb.specs.Specimens.{caseRuns, trivialRow, trivialSupports, threeRuns, twoRuns, specimens, bareRow, overOne, chainAtRoot}
-use Rattle.arb.specs.Specimens.{chainInside, chainOut, chainWords, oneRun}
+use Rattle.arb.specs.Specimens.{caseRuns, trivialRow, trivialSupports, threeRuns, twoRuns, chainWords, oneRun, specimens}
 
 -- ---- renumbering
 
@@ -165,8 +164,8 @@ reads-so n l r a e out f = ap left (text-decides n l out accepted a (e .0) f) �
 
 texts-read : Makes 5 (ascii "(((0,1)2,2)2,(3,4)2);") agreedRow × Makes 5 (ascii "(((0,1),2),(3,4));") agreedRow
     × Makes 2 (ascii "(0,1);") (3 ∷ 2 ∷ 2 ∷ 65535 ∷ []) × Makes 2 (ascii "(((0)),1);") (3 ∷ 2 ∷ 2 ∷ 65535 ∷ [])
-    × Makes 3 (ascii "((0),1,2);") bareRow × Makes 3 (ascii "((0,1,2));") bareRow
-    × Makes 4 (ascii "(((0,1)),2,3);") chainOut × Makes 4 (ascii "(((0,1)8)7,2,3);") chainOut
+    × Makes 3 (ascii "((0),1,2);") bareOf3 × Makes 3 (ascii "((0,1,2));") bareOf3
+    × Makes 4 (ascii "(((0,1)),2,3);") pairOf4 × Makes 4 (ascii "(((0,1)8)7,2,3);") pairOf4
 unfolding textChecks rowIn _⊳_ parsed walk final step entered begun longer shut next last kindOf depth
     meaning.samples samplesIn groupOf groupsOf groupsIn above
     filter tabulate first weigh size lowest before same listFirst enter ordered lastWith parents rowOf
@@ -238,7 +237,7 @@ two-runs = record {
   some = omega arith;
 }
 
-one-run : Stores 3 (run 1 overOne ∷ []) (oneRun 3 bareRow)
+one-run : Stores 3 (run 1 overOne ∷ []) (oneRun 3 bareOf3)
 unfolding tabulate filter first weigh size lowest same listFirst before member nodes parent meets ends groupAt groups _⊳_ rowChecks
     judgeChecks judged
     enter ordered groupSet lastWith parents rowOf renumbered every find insertRun gathered slots encode runs capacity
@@ -273,24 +272,24 @@ three-shown = (
   record { inRange = (omega arith, omega arith); row = refl; counts = refl },
 )
 
-two-shown : Shows twoRuns 0 bareRow (2 ∷ 2 ∷ 2 ∷ 2 ∷ 2 ∷ 0 ∷ [])
+two-shown : Shows twoRuns 0 bareOf3 (2 ∷ 2 ∷ 2 ∷ 2 ∷ 2 ∷ 0 ∷ [])
 unfolding tabulate filter weigh size lowest same listFirst before member nodes parent meets groupAt groups
     enter ordered lastWith parents rowOf support total held shown agreed supportsOf runs threshold isShown
 two-shown = record { inRange = (omega arith, omega arith); row = refl; counts = refl }
 
-one-shown : Shows (oneRun 3 bareRow) 0 bareRow (1 ∷ 1 ∷ 1 ∷ 1 ∷ 1 ∷ 0 ∷ [])
+one-shown : Shows (oneRun 3 bareOf3) 0 bareOf3 (1 ∷ 1 ∷ 1 ∷ 1 ∷ 1 ∷ 0 ∷ [])
 unfolding tabulate filter weigh size lowest same listFirst before member nodes parent meets groupAt groups
     enter ordered lastWith parents rowOf support total held shown agreed supportsOf runs threshold isShown
 one-shown = record { inRange = (omega arith, omega arith); row = refl; counts = refl }
 
-branches-out : Says (renumbers 3 overOne bareRow) × Says (renumbers 3 chainAtRoot bareRow) × Says (renumbers 4 chainInside chainOut)
+branches-out : Says (renumbers 3 overOne bareOf3) × Says (renumbers 3 chainAtRoot bareOf3) × Says (renumbers 4 chainInside pairOf4)
 unfolding tabulate filter first weigh size lowest same listFirst before member nodes parent meets ends groupAt groups _⊳_ rowChecks
     judgeChecks judged
     enter ordered groupSet lastWith parents rowOf renumbered
 branches-out = (
-  λ out. renumbers-so 3 overOne bareRow out refl refl,
-  λ out. renumbers-so 3 chainAtRoot bareRow out refl refl,
-  λ out. renumbers-so 4 chainInside chainOut out refl refl,
+  λ out. renumbers-so 3 overOne bareOf3 out refl refl,
+  λ out. renumbers-so 3 chainAtRoot bareOf3 out refl refl,
+  λ out. renumbers-so 4 chainInside pairOf4 out refl refl,
 )
 
 one-tree : Says (renumbers 3 (5 ∷ 3 ∷ 3 ∷ 4 ∷ 4 ∷ 65535 ∷ []) row01)

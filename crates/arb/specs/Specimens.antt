@@ -10,7 +10,7 @@ use Rattle.trees.specs.Valid.{isAccepted}
 use Rattle.trees.specs.Outcomes.{Outcome}
 use Rattle.trees.specs.RowCalls.{renumbering, comparing}
 use Rattle.trees.specs.Reporting.{Run}
-use Rattle.trees.specs.Case.{row1, row2, row3, agreedRow, supportRow}
+use Rattle.trees.specs.Case.{row1, row2, row3, agreedRow, supportRow, bareOf3, overOne, chainAtRoot, pairOf4, chainInside}
 use Rattle.runs.specs.Runs.{every}
 use Rattle.runs.specs.Formed.{wellFormed}
 use Rattle.runs.specs.Calls.{opened}
@@ -87,23 +87,7 @@ row01 = 5 ∷ 4 ∷ 4 ∷ 3 ∷ 65535 ∷ 3 ∷ []
 abbrev pub row02 : List ℕ
 row02 = 5 ∷ 4 ∷ 3 ∷ 4 ∷ 65535 ∷ 3 ∷ []
 
--- the tree of three samples that has trivial groups alone; it once more with a node above one sample, and with a chain at the root
-abbrev pub bareRow : List ℕ
-bareRow = 4 ∷ 3 ∷ 3 ∷ 3 ∷ 65535 ∷ 0 ∷ []
-
-abbrev pub overOne : List ℕ
-overOne = 5 ∷ 4 ∷ 3 ∷ 3 ∷ 65535 ∷ 3 ∷ []
-
-abbrev pub chainAtRoot : List ℕ
-chainAtRoot = 5 ∷ 4 ∷ 4 ∷ 4 ∷ 65535 ∷ 3 ∷ []
-
--- four samples with the group {0,1}, of a chain and of one node; and words of a support row for the chain
-abbrev pub chainInside : List ℕ
-chainInside = 7 ∷ 6 ∷ 6 ∷ 4 ∷ 4 ∷ 65535 ∷ 4 ∷ 5 ∷ []
-
-abbrev pub chainOut : List ℕ
-chainOut = 6 ∷ 5 ∷ 5 ∷ 4 ∷ 4 ∷ 65535 ∷ 4 ∷ 0 ∷ []
-
+-- words of a support row for the chain of four samples
 abbrev pub chainWords : List ℕ
 chainWords = 9 ∷ 9 ∷ 9 ∷ 9 ∷ 9 ∷ 9 ∷ 7 ∷ 8 ∷ []
 
@@ -141,7 +125,7 @@ specimens =
     ∷ renumbers 3 (5 ∷ 3 ∷ 3 ∷ 4 ∷ 4 ∷ 65535 ∷ []) row01
     -- rows over three samples, judged (RULES 10.4)
     ∷ judges 3 (4 ∷ 3 ∷ 3 ∷ 3 ∷ 65535 ∷ 7 ∷ []) (refused 8 5)
-    ∷ judges 3 bareRow accepted
+    ∷ judges 3 bareOf3 accepted
     ∷ judges 3 (5 ∷ 3 ∷ 3 ∷ 3 ∷ 65535 ∷ 4 ∷ []) (refused 9 4)
     ∷ judges 3 (5 ∷ 3 ∷ 3 ∷ 3 ∷ 65535 ∷ 3 ∷ []) (refused 10 4)
     ∷ judges 3 (5 ∷ 2 ∷ 3 ∷ 3 ∷ 65535 ∷ 3 ∷ []) (refused 6 0)
@@ -149,7 +133,7 @@ specimens =
     ∷ nodesGive 3 3 (refused 5 0)
     ∷ nodesGive 3 6 (refused 5 0)
     -- two runs in conflict (RULES 10.5)
-    ∷ reports 3 (run 1 row01 ∷ run 2 row02 ∷ []) twoRuns 0 bareRow (2 ∷ 2 ∷ 2 ∷ 2 ∷ 2 ∷ 0 ∷ [])
+    ∷ reports 3 (run 1 row01 ∷ run 2 row02 ∷ []) twoRuns 0 bareOf3 (2 ∷ 2 ∷ 2 ∷ 2 ∷ 2 ∷ 0 ∷ [])
     -- comparisons (RULES 10.6): of the second one the two sides differ; then one tree in two numberings, and that of two samples
     ∷ compares 5 row1 row2 (counted 1 1 1)
     ∷ compares 5 row1 row3 (counted 1 1 2)
@@ -183,11 +167,11 @@ specimens =
     ∷ judges 3 overOne accepted
     ∷ judges 3 chainAtRoot accepted
     ∷ judges 4 chainInside accepted
-    ∷ renumbers 3 overOne bareRow
-    ∷ renumbers 3 chainAtRoot bareRow
-    ∷ renumbers 4 chainInside chainOut
-    ∷ compares 4 chainInside chainOut (counted 1 0 0)
-    ∷ reports 3 (run 1 overOne ∷ []) (oneRun 3 bareRow) 0 bareRow (1 ∷ 1 ∷ 1 ∷ 1 ∷ 1 ∷ 0 ∷ [])
+    ∷ renumbers 3 overOne bareOf3
+    ∷ renumbers 3 chainAtRoot bareOf3
+    ∷ renumbers 4 chainInside pairOf4
+    ∷ compares 4 chainInside pairOf4 (counted 1 0 0)
+    ∷ reports 3 (run 1 overOne ∷ []) (oneRun 3 bareOf3) 0 bareOf3 (1 ∷ 1 ∷ 1 ∷ 1 ∷ 1 ∷ 0 ∷ [])
     ∷ unformed (oneRun 3 overOne)
     ∷ unformed (oneRun 3 chainAtRoot)
     ∷ unformed (oneRun 4 chainInside)
@@ -195,8 +179,8 @@ specimens =
     ∷ writes 3 chainAtRoot plain (ascii "((0,1,2));")
     ∷ writes 4 chainInside plain (ascii "(((0,1)),2,3);")
     ∷ writes 4 chainInside (with-words chainWords) (ascii "(((0,1)8)7,2,3);")
-    ∷ reads 3 (ascii "((0),1,2);") bareRow
-    ∷ reads 3 (ascii "((0,1,2));") bareRow
-    ∷ reads 4 (ascii "(((0,1)),2,3);") chainOut
-    ∷ reads 4 (ascii "(((0,1)8)7,2,3);") chainOut
+    ∷ reads 3 (ascii "((0),1,2);") bareOf3
+    ∷ reads 3 (ascii "((0,1,2));") bareOf3
+    ∷ reads 4 (ascii "(((0,1)),2,3);") pairOf4
+    ∷ reads 4 (ascii "(((0,1)8)7,2,3);") pairOf4
     ∷ []

@@ -56,11 +56,12 @@ unfoldable mutual
   trimmedIn (only t) = only (trimmed t)
   trimmedIn (more f t) = more (trimmedIn f) (trimmed t)
 
--- how many single pairs a tree has
+-- 1 for the subtrees of a single pair, 0 for those of another
 abbrev pub holdsOne : Forest → ℕ
 holdsOne (only t) = 1
 holdsOne (more f t) = 0
 
+-- how many single pairs a tree has
 unfoldable mutual
   pub singles : Tree → ℕ
   singles (leaf x) = 0

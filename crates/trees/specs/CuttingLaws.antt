@@ -17,6 +17,7 @@ use Rattle.trees.specs.Checks.{rowWords, children}
 use Rattle.trees.specs.Valid.{Valid, In}
 use Rattle.trees.specs.Rooted.{Rooted}
 use Rattle.trees.specs.Numbering.{renumbered}
+use Rattle.trees.specs.Case.{bareOf3, overOne, chainAtRoot, pairOf4, chainInside}
 use Rattle.trees.specs.Cutting.{newNumber, oldNumber, parentPast, cutWord, cut, Cuts, uncut, then}
 use Rattle.trees.specs.BoolLaws.{true-eq, decide}
 use Rattle.trees.specs.ListLaws.{length-tabulate, getD-tabulate, length-zeros, getD-zeros, in-range, range-in}
@@ -31,12 +32,9 @@ use Rattle.trees.specs.RowLaws.{leaf-below, one-root, root-group}
 use Rattle.trees.specs.NumberingLaws.{renumbered-same}
 use Rattle.trees.specs.SingleLaws.{only-child, single-group}
 
--- a chain at the root, a node above one sample and a chain in the middle (RULES 10.15), and a node above one sample in front of its parent:
--- each is cut to what it is renumbered to
-pub cut-specimens : (cut 3 (5 ∷ 4 ∷ 4 ∷ 4 ∷ rootMark ∷ 3 ∷ []) 3 ≡ (4 ∷ 3 ∷ 3 ∷ 3 ∷ rootMark ∷ 0 ∷ []))
-    × (cut 3 (5 ∷ 4 ∷ 3 ∷ 3 ∷ rootMark ∷ 3 ∷ []) 4 ≡ (4 ∷ 3 ∷ 3 ∷ 3 ∷ rootMark ∷ 0 ∷ []))
-    × (cut 4 (7 ∷ 6 ∷ 6 ∷ 4 ∷ 4 ∷ rootMark ∷ 4 ∷ 5 ∷ []) 5 ≡ (6 ∷ 5 ∷ 5 ∷ 4 ∷ 4 ∷ rootMark ∷ 4 ∷ 0 ∷ []))
-    × (cut 4 (7 ∷ 5 ∷ 6 ∷ 4 ∷ 4 ∷ rootMark ∷ 6 ∷ 4 ∷ []) 5 ≡ (6 ∷ 5 ∷ 5 ∷ 4 ∷ 4 ∷ rootMark ∷ 4 ∷ 0 ∷ []))
+-- the rows of RULES 10.15, and one with a node above one sample in front of its parent: each is cut to what it is renumbered to
+pub cut-specimens : (cut 3 chainAtRoot 3 ≡ bareOf3) × (cut 3 overOne 4 ≡ bareOf3) × (cut 4 chainInside 5 ≡ pairOf4)
+    × (cut 4 (7 ∷ 5 ∷ 6 ∷ 4 ∷ 4 ∷ rootMark ∷ 6 ∷ 4 ∷ []) 5 ≡ pairOf4)
 unfolding cut cutWord parentPast newNumber oldNumber tabulate nodes parent
 cut-specimens = (refl, refl, refl, refl)
 

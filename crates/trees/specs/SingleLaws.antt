@@ -2,7 +2,7 @@
 use Prim.Native.Nat.{ℕ, zero, suc, _+_, _≤_, _<_, zero-le}
 use mathlib.Core.Path.{_≡_, refl, sym, ap, _∙_}
 use mathlib.Core.Logic.{_⊎_, inl, inr, ⊎-elim}
-use mathlib.Core.List.{List, [], _∷_}
+use mathlib.Core.List.{List}
 use mathlib.Core.Bool.{Bool, true, false, _||_, false≢true}
 use native.Mathlib.Nat.{zero-add}
 use native.Mathlib.Omega.{arith}
@@ -15,6 +15,7 @@ use Rattle.trees.specs.Checks.{accepted, _⊳_, children, rowChecks, jud
 use Rattle.trees.specs.Valid.{Valid, inOrder, standard}
 use Rattle.trees.specs.Numbering.{renumbered}
 use Rattle.trees.specs.Choosing.{OneEach}
+use Rattle.trees.specs.Case.{overOne}
 use Rattle.trees.specs.BoolLaws.{or-cases, or-r, decide}
 use Rattle.trees.specs.ListLaws.{count-two, range-in}
 use Rattle.trees.specs.GroupLaws.{Within, within-size, within-eq}
@@ -113,10 +114,6 @@ module _ (n : ℕ) (r : List ℕ) (ok : Valid n r) where
   -- RENUMBERING LEAVES AS MANY INNER NODES AS HAVE TWO CHILDREN OR MORE (RULES 4.5)
   pub proper-left : nodes (renumbered n r) ≡ n + count (λ v. leb 2 (children r v)) (range n (nodes r))
   proper-left = one-each-nodes n r ok (λ v. leb 2 (children r v)) forks-one
-
--- node 4 is above sample 0 alone (RULES 10.15)
-abbrev overOne : List ℕ
-overOne = 5 ∷ 4 ∷ 3 ∷ 3 ∷ 65535 ∷ 3 ∷ []
 
 -- the order of RULES 4.1 does not rule single branches out: a node above one sample may stand in it (RULES 11.14)
 pub order-alone : (judged 3 overOne ≡ accepted) × (inOrder (inner 3 overOne) ≡ true) × (standard 3 overOne ≡ false)

@@ -10,7 +10,8 @@ use Rattle.trees.specs.Lists.{range, count}
 use Rattle.trees.specs.Scans.{never}
 use Rattle.trees.specs.Groups.{Group, before, member}
 use Rattle.trees.specs.Rows.{nodes, parent, rootMark, childOf, ends, inner}
-use Rattle.trees.specs.Checks.{Verdict, accepted, refused, counted, wrote, fewestSamples, mostSamples, rowWords, children, fewestChildren, judged}
+use Rattle.trees.specs.Checks.{Verdict, accepted, refused, counted, wrote, judged}
+use Rattle.trees.specs.Checks.{fewestSamples, mostSamples, rowWords, children, fewestChildren}
 
 -- A row to which none of checks 1, 3 and 5 to 10 applies (RULES 7.5); judging accepts these and no others (`judged-valid`, `valid-judged`).
 pub record Valid (n : ℕ) (r : List ℕ) : Type 0 where
