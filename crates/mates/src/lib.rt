@@ -143,7 +143,7 @@ fn all_from_end(n: usize, start: &Table, t: &mut Table)
 }
 
 // The first and the last place of each node's group, by the places of a reference row; the last is counted from the end.
-fn spread(n: usize, row: &[u16], start: &Table, first: &mut Table, last: &mut Table)
+pub fn spread(n: usize, row: &[u16], start: &Table, first: &mut Table, last: &mut Table)
     requires { ⌜ Falls n (now row) × Keys n (now start) × (length (now first) ≡ tableWords) × (length (now last) ≡ tableWords) ⌝ }
     ensures { λ _. ⌜ Tabled (leastAt n (now (row .entry)) (entry (now (start .entry)))) 0 (nodes (now (row .entry))) (now (first .exit))
         × Tabled (leastAt n (now (row .entry)) (fromEnd n (entry (now (start .entry))))) 0 (nodes (now (row .entry))) (now (last .exit)) ⌝ }

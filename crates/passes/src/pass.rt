@@ -81,7 +81,7 @@ pub fn sizes(n: usize, row: &[u16], size: &mut Table, off: &mut Table)
 }
 
 // The lesser of two words.
-fn lesser(a: u16, b: u16) -> u16
+pub fn lesser(a: u16, b: u16) -> u16
     ensures { λ r. ⌜ r ≡ min a b ⌝ }
 {
     if a < b {

@@ -3,13 +3,13 @@ use Prim.Native.Nat.{ℕ, zero, suc, _+_, _≤_, _<_, min, zero-le}
 use mathlib.Core.Path.{_≡_, refl, sym, ap, _∙_, subst}
 use mathlib.Core.Logic.{_⊎_, inl, inr, ⊎-elim}
 use mathlib.Core.List.{List}
-use mathlib.Core.Bool.{Bool, true, false, cond}
+use mathlib.Core.Bool.{Bool, true, false, _||_, cond}
 use native.Mathlib.Omega.{arith}
 use lib.Dec.{eqb, ltb}
 use lib.ListN.{length, getD, set}
 use borrow.Author.Tests.{eqb-true, eqb-false, lt-ltb, le-ltb, eq-eqb, ne-eqb}
 use Rattle.trees.specs.Lists.{tabulate}
-use Rattle.trees.specs.Groups.{Group, size}
+use Rattle.trees.specs.Groups.{Group, has, size}
 use Rattle.trees.specs.Rows.{nodes, parent, meets, groupAt}
 use Rattle.trees.specs.Falls.{Falls, due}
 use Rattle.trees.specs.Tables.{Tabled, over, one, seeded}
@@ -21,6 +21,19 @@ use Rattle.trees.specs.RowLaws.{Above, below-child}
 use Rattle.trees.specs.NeverLaws.{side, Tri, less, equal, more, tri}
 use Rattle.trees.specs.TurnLaws.{due-low, due-due, due-one, due-root, parent-in, falls-rooted, above-due}
 use Rattle.trees.specs.TableLaws.{tabled-store, Folds, adds, size-over, size-length, Split, neither, left, right, over-join, over-none, over-one}
+
+-- where one of two tests passes
+tabulate-both : (n : ℕ) (p q u : ℕ → Bool) → ((t : ℕ) → Split (p t) (q t) (u t)) → (i s : ℕ)
+    → has (tabulate n u i) s ≡ (has (tabulate n p i) s || has (tabulate n q i) s)
+unfolding tabulate
+tabulate-both zero p q u f i s = refl
+tabulate-both (suc n) p q u f i zero = go (p i) (q i) (u i) (f i)
+  where
+    go : (a b c : Bool) → Split a b c → c ≡ (a || b)
+    go false false false neither = refl
+    go true false true left = refl
+    go false true true right = refl
+tabulate-both (suc n) p q u f i (suc s) = tabulate-both n p q u f (suc i) s
 
 module _ (n : ℕ) (r : List ℕ) (ok : Falls n r) where
   -- ---- where each sample stands
@@ -87,7 +100,7 @@ module _ (n : ℕ) (r : List ℕ) (ok : Falls n r) where
 
   -- ---- the samples that a node has got
 
-  part-start : (p : ℕ) → part n r 0 p ≡ tabulate n (λ t. eqb t p) 0
+  pub part-start : (p : ℕ) → part n r 0 p ≡ tabulate n (λ t. eqb t p) 0
   unfolding part stand
   part-start p = let e : min 0 (due n r p) ≡ 0 = omega arith in rw e
 
@@ -141,6 +154,18 @@ module _ (n : ℕ) (r : List ℕ) (ok : Falls n r) where
       let b : min d (due n r (parent r (node n r d))) ≡ d = omega (arith, p .2) in
       let g : min d (due n r (node n r d)) ≡ d = omega (arith, c .2) in
       rw (a, b, g) (over-join op e f k _ _ _ n 0 (λ t _ _. splits d (parent r (node n r d)) t (λ i. omega (arith, ap (due n r) i, p .2, c .2)) refl))
+
+  -- so its samples are those that it had, and those of the node done
+  pub part-both : (d : ℕ) → suc d < nodes r → (s : ℕ) → has (part n r (suc d) (parent r (node n r d))) s ≡
+      (has (part n r d (parent r (node n r d))) s || has (part n r d (node n r d)) s)
+  unfolding part
+  part-both d h s =
+      let c = node-child d h in
+      let p = node-parent d h in
+      let a : min (suc d) (due n r (parent r (node n r d))) ≡ suc d = omega (arith, p .2) in
+      let b : min d (due n r (parent r (node n r d))) ≡ d = omega (arith, p .2) in
+      let g : min d (due n r (node n r d)) ≡ d = omega (arith, c .2) in
+      rw (a, b, g) (tabulate-both n _ _ _ (λ t. splits d (parent r (node n r d)) t (λ i. omega (arith, ap (due n r) i, p .2, c .2)) refl) 0 s)
 
   -- ---- a table step by step
 

@@ -7,13 +7,13 @@ use mathlib.Core.Bool.{Bool, true, false, cond, false≢true}
 use native.Mathlib.Nat.{zero-add}
 use native.Mathlib.Omega.{arith}
 use lib.Dec.{eqb, ltb}
-use lib.ListN.{length, getD, set}
+use lib.ListN.{length, getD, set, length-set}
 use lib.Seq.{getD-set-same, getD-set-other}
 use borrow.Author.Tests.{eqb-true, eqb-false, ne-eqb, ltb-true}
 use Rattle.trees.specs.Lists.{tabulate}
 use Rattle.trees.specs.Groups.{Group, has, size, lowest}
 use Rattle.trees.specs.Rows.{rootMark, groupAt}
-use Rattle.trees.specs.Tables.{Tabled, entry, over, leastOf, one, own, seeded, Keys, leastAt}
+use Rattle.trees.specs.Tables.{Tabled, Flags, Remade, tableWords, entry, over, leastOf, one, own, seeded, Keys, leastAt}
 use Rattle.trees.specs.BoolLaws.{decide}
 use Rattle.trees.specs.GroupLaws.{lowest-has, lowest-least}
 use Rattle.trees.specs.RowLaws.{group-has}
@@ -37,6 +37,32 @@ tabled-more f a b x t d l e = tabled-store (entry t) f a (b + 1) b x t (record {
 
 pub tabled-none : (f : ℕ → ℕ) (a : ℕ) (t : List ℕ) → Tabled f a a t
 tabled-none f a t = record { is = λ v h k. absurd (omega arith) }
+
+-- one flag more
+pub flags-more : (f : ℕ → Bool) (a b : ℕ) (x : Bool) (t : List Bool) → Flags f a b t → b < length t → x ≡ f b → Flags f a (b + 1) (set t b x)
+flags-more f a b x t d l e = record { is = λ v j k. ⊎-elim (λ q. here v (eqb-true v b q)) (λ q. there v j k (eqb-false v b q)) (decide (eqb v b)) }
+  where
+    here : (v : ℕ) → v ≡ b → getD (set t b x) v false ≡ f v
+    here v q = rw q (getD-set-same t b x false l ∙ e)
+
+    there : (v : ℕ) → a ≤ v → v < b + 1 → (v ≡ b → ⊥) → getD (set t b x) v false ≡ f v
+    there v j k q = getD-set-other t b v x false q ∙ d .is v j (omega arith)
+
+pub flags-none : (f : ℕ → Bool) (a : ℕ) (t : List Bool) → Flags f a a t
+flags-none f a t = record { is = λ v h k. absurd (omega arith) }
+
+-- a table made anew, word by word
+pub remade-start : (f : ℕ → ℕ) (a b : ℕ) (t : List ℕ) → length t ≡ tableWords → Remade f t a b a t
+remade-start f a b t l = record { low = omega arith; long = l; done = tabled-none f a t; rest = record { is = λ v h k. refl } }
+
+pub remade-more : (f : ℕ → ℕ) (old : List ℕ) (a b v x : ℕ) (t : List ℕ) → v < b → b ≤ tableWords → x ≡ f v → Remade f old a b v t
+    → Remade f old a b (v + 1) (set t v x)
+remade-more f old a b v x t h l e i = record {
+  low = omega (arith, i .low);
+  long = simp length-set (i .long);
+  done = tabled-more f a v x t (i .done) (omega (arith, i .long)) e;
+  rest = record { is = λ u j k. getD-set-other t v u x 0 (λ y. omega arith) ∙ i .rest .is u (omega arith) k };
+}
 
 -- a table that a pass starts with is settled by the keys of the samples
 pub seed-same : (n : ℕ) (k l : ℕ → ℕ) (e m : ℕ) (t : List ℕ) → ((s : ℕ) → s < n → k s ≡ l s) → Tabled (seeded n k e) 0 m t → Tabled (seeded n l e) 0 m t

@@ -2,9 +2,9 @@
 use Prim.Native.Nat.{ℕ, suc, _+_, _-_, _*_, _≤_, _<_, min}
 use mathlib.Core.Path.{_≡_}
 use mathlib.Core.List.{List, [], _∷_}
-use mathlib.Core.Bool.{cond}
+use mathlib.Core.Bool.{Bool, false, cond}
 use lib.Dec.{ltb}
-use lib.ListN.{getD}
+use lib.ListN.{length, getD}
 use Rattle.trees.specs.Groups.{Group, size}
 use Rattle.trees.specs.Rows.{rootMark, groupAt}
 
@@ -12,12 +12,23 @@ use Rattle.trees.specs.Rows.{rootMark, groupAt}
 pub record Tabled (f : ℕ → ℕ) (a b : ℕ) (t : List ℕ) : Type 0 where
   pub is : (v : ℕ) → a ≤ v → v < b → getD t v 0 ≡ f v
 
+-- the flags from a to below b are the values of f
+pub record Flags (f : ℕ → Bool) (a b : ℕ) (flags : List Bool) : Type 0 where
+  pub is : (v : ℕ) → a ≤ v → v < b → getD flags v false ≡ f v
+
 -- a table has a word for each node of the largest row
 abbrev pub tableWords : ℕ
 tableWords = 1024
 
 abbrev pub entry : List ℕ → ℕ → ℕ
 entry t v = getD t v 0
+
+-- t while a table is made anew word by word: the words from a to below v are those of f, and those from v to below b still those of old
+pub record Remade (f : ℕ → ℕ) (old : List ℕ) (a b v : ℕ) (t : List ℕ) : Type 0 where
+  pub low : a ≤ v
+  pub long : length t ≡ tableWords
+  pub done : Tabled f a v t
+  pub rest : Tabled (entry old) v b t
 
 -- `op` over the keys of the samples of a group whose first entry is sample s, and e where there is none
 unfoldable pub over : (ℕ → ℕ → ℕ) → ℕ → (ℕ → ℕ) → Group → ℕ → ℕ
