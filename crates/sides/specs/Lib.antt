@@ -1,0 +1,5 @@
+pub mod Sides
+pub mod SideLaws
+pub mod Counters
+pub mod CounterLaws
+pub mod CounterCases
