@@ -4,7 +4,7 @@ ghost use mathlib.Core.Bool.{not, cond};
 ghost use Prim.Native.Nat.{_+_, _<_, _≤_};
 ghost use lib.Dec.{eqb};
 ghost use lib.ListN.{length};
-ghost use Rattle.trees.specs.Rows.{nodes};
+ghost use Rattle.trees.specs.Rows.{nodes, holds};
 ghost use Rattle.trees.specs.Checks.{mostSamples};
 ghost use Rattle.trees.specs.Valid.{Standard};
 ghost use Rattle.trees.specs.Tables.{Tabled, tableWords};
@@ -64,7 +64,7 @@ fn count_run(
 )
     requires { ⌜ Standard n (now reference) × Tables n (now reference) (now size) (now low) (now start) × Standard n (now row)
         × (length (now holders) ≡ tableWords) × Under mostRuns n (nodes (now reference)) (now holders) ⌝ }
-    ensures { λ _. ⌜ Tabled (withRun n (now (reference .entry)) (now (row .entry)) (now (holders .entry)))
+    ensures { λ _. ⌜ Tabled (withRun (holds n) n (now (reference .entry)) (now (row .entry)) (now (holders .entry)))
         n (nodes (now (reference .entry))) (now (holders .exit)) × (length (now (holders .exit)) ≡ tableWords) ⌝ }
 {
     let mut mate: Table = [0; TABLE];

@@ -4,4 +4,8 @@ mod plain;
 mod rule;
 
 pub use holding::holders;
+pub use holding::run_row;
 pub use plain::agreed_row;
+pub use plain::bare;
+pub use plain::copy;
+pub use rule::marks;

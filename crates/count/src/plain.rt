@@ -38,7 +38,7 @@ fn bare_word(n: usize, w: usize) -> u16
 }
 
 // Writes that row.
-fn bare(n: usize, out: &mut [u16])
+pub fn bare(n: usize, out: &mut [u16])
     requires { ⌜ (fewestSamples ≤ n) × (n ≤ mostSamples) × (length (now out) ≡ rowWords n) ⌝ }
     ensures { λ _. ⌜ now (out .exit) ≡ bareRow n ⌝ }
 {
@@ -50,7 +50,7 @@ fn bare(n: usize, out: &mut [u16])
 }
 
 // Copies all words.
-fn copy(from: &[u16], to: &mut [u16])
+pub fn copy(from: &[u16], to: &mut [u16])
     requires { ⌜ length (now to) ≡ length (now from) ⌝ }
     ensures { λ _. ⌜ now (to .exit) ≡ now (from .entry) ⌝ }
 {

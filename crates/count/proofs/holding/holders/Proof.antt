@@ -3,17 +3,18 @@ use Prim.Native.Nat.{ℕ, _-_, _≤_, _<_}
 use mathlib.Core.Path.{sym, ap, _∙_}
 use native.Mathlib.Omega.{arith}
 use denote.Ref.{now}
+use Rattle.trees.specs.Rows.{holds}
 use Rattle.trees.specs.Reporting.{Run}
 use Rattle.runs.specs.Words.{runAt, runs, mostRuns}
 use Rattle.count.specs.StudyLaws.{study-most, study-few, study-length, study-room, study-run, study-standard}
-use Rattle.count.specs.Holders.{Holding}
-use Rattle.count.specs.HolderLaws.{holding-start, holding-under, holding-step, holding-end}
+use Rattle.count.specs.Holders.{Counting}
+use Rattle.count.specs.HolderLaws.{counting-start, counting-under, counting-step, holding-end}
 use borrow.Author.Needs.{needs}
 use Rattle.count.proofs.holding.holders.Statement.{statement}
 use Rattle.count.proofs.holding.holders.Tie as tie
 
 abbrev Inv-loop : tie.InvT-loop
-Inv-loop n words k reference holders₀ size low start j₀ holders j = Holding n (runs words) reference j holders
+Inv-loop n words k reference holders₀ size low start j₀ holders j = Counting (holds n) n (runs words) reference j holders
 
 abbrev μ-loop : tie.MeasureT-loop
 μ-loop n words k reference holders₀ size low start j₀ holders j = k - j
@@ -24,7 +25,7 @@ tables-requires c κs = search needs
 loop-holds : tie.Need-loop-holds Inv-loop μ-loop
 loop-holds c =
     let st : tie.Start Inv-loop μ-loop = search needs in
-    holding-start (st .args .n) (runs (now (st .args .words))) (now (st .args .reference))
+    counting-start (holds (st .args .n)) (st .args .n) (runs (now (st .args .words))) (now (st .args .reference))
 
 run-row-requires : tie.Need-run-row-requires Inv-loop μ-loop
 run-row-requires c κs =
@@ -43,7 +44,7 @@ count-run-requires c κs =
       t .tables .ensures,
       rw (r .run-row .ensures) (study-standard (now (a .words)) (a .n) (a .k) (st .pre .0) (l .loop .j) (omega arith)),
       l .loop .inv .long,
-      holding-under (a .n) (runs (now (a .words))) (now (a .reference)) mostRuns (l .loop .j) (l .loop .holders)
+      counting-under (holds (a .n)) (a .n) (runs (now (a .words))) (now (a .reference)) mostRuns (l .loop .j) (l .loop .holders)
           (omega (arith, study-few _ _ _ (st .pre .0))) (l .loop .inv),
     )
 
@@ -65,7 +66,7 @@ loop-again c =
     let j : ℕ = l .loop .j in
     let h : j < a .k = omega arith in
     let d : Run = runAt (a .n) (now (a .words)) j in
-    holding-step (a .n) (runs (now (a .words))) (now (a .reference)) j d _ (l .loop .holders) _ (rw (study-length _ _ _ (st .pre .0)) h)
+    counting-step (holds (a .n)) (a .n) (runs (now (a .words))) (now (a .reference)) j d _ (l .loop .holders) _ (rw (study-length _ _ _ (st .pre .0)) h)
     (ap (λ (run : Run). run .row) (study-run _ _ _ (st .pre .0) j d h) ∙ sym (r .run-row .ensures)) (l .loop .inv) (c .count-run .ensures .1)
     (c .count-run .ensures .0)
 

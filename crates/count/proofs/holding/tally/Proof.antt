@@ -1,16 +1,20 @@
 -- `count::holding::tally` counts mate by mate. Assumes nothing.
-use Prim.Native.Nat.{_-_, _≤_}
-use mathlib.Core.Path.{_≡_}
+use Prim.Native.Nat.{ℕ, _+_, _-_, _≤_}
+use mathlib.Core.Path.{_≡_, ap, _∙_}
+use mathlib.Core.Bool.{not, cond}
+use lib.Dec.{eqb}
 use native.Mathlib.Omega.{arith}
 use denote.Ref.{now}
-use Rattle.count.specs.Holders.{Tallying}
-use Rattle.count.specs.HolderLaws.{tallying-start, tallying-step}
+use Rattle.trees.specs.Tables.{Remade, entry}
+use Rattle.trees.specs.Mates.{noMate}
+use Rattle.trees.specs.TableLaws.{remade-start, remade-more}
+use Rattle.count.specs.Holders.{withMate}
 use borrow.Author.Needs.{needs}
 use Rattle.count.proofs.holding.tally.Statement.{statement}
 use Rattle.count.proofs.holding.tally.Tie as tie
 
 abbrev Inv-loop : tie.InvT-loop
-Inv-loop n m mate holders₀ v₀ holders v = (v ≤ m) × Tallying n m mate holders₀ v holders
+Inv-loop n m mate holders₀ v₀ holders v = (v ≤ m) × Remade (withMate mate holders₀) holders₀ n m v holders
 
 abbrev μ-loop : tie.MeasureT-loop
 μ-loop n m mate holders₀ v₀ holders v = m - v
@@ -18,7 +22,7 @@ abbrev μ-loop : tie.MeasureT-loop
 loop-holds : tie.Need-loop-holds Inv-loop μ-loop
 loop-holds c =
     let st : tie.Start Inv-loop μ-loop = search needs in
-    (st .pre .0, tallying-start (st .args .n) (st .args .m) (now (st .args .mate)) (now (st .args .holders)) (st .pre .2))
+    (st .pre .0, remade-start (withMate (now (st .args .mate)) (now (st .args .holders))) (st .args .n) (st .args .m) _ (st .pre .2))
 
 mul-with-mate : tie.Need-mul-with-mate Inv-loop μ-loop
 mul-with-mate c = search needs
@@ -53,10 +57,13 @@ loop-less c = search needs
 loop-again : tie.Need-loop-again Inv-loop μ-loop
 loop-again c =
     let st : tie.Start Inv-loop μ-loop = search needs in
-    let l : tie.At-loop Inv-loop μ-loop = search needs in (
+    let l : tie.At-loop Inv-loop μ-loop = search needs in
+    let mate = now (st .args .mate) in
+    let v : ℕ = l .loop .v in (
       omega arith,
-      tallying-step (st .args .n) (st .args .m) (now (st .args .mate)) (now (st .args .holders)) (l .loop .v) _ (l .loop .holders) (omega arith)
-          (st .pre .1) (c .with-mate .ensures) (l .loop .inv .1),
+      remade-more (withMate mate (now (st .args .holders))) (now (st .args .holders)) (st .args .n) (st .args .m) v _ (l .loop .holders)
+          (omega arith) (st .pre .1) (c .with-mate .ensures ∙ ap (λ (y : ℕ). y + cond (not (eqb (entry mate v) noMate)) 1 0)
+          (l .loop .inv .1 .rest .is v (omega arith) (omega arith))) (l .loop .inv .1),
     )
 
 returns : tie.Need-returns Inv-loop μ-loop

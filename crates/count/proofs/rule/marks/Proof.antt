@@ -4,9 +4,10 @@ use mathlib.Core.Path.{_≡_}
 use native.Mathlib.Omega.{arith}
 use lib.ListN.{length, length-set}
 use denote.Ref.{now}
-use Rattle.trees.specs.Tables.{tableWords}
+use Rattle.trees.specs.Tables.{tableWords, entry}
 use Rattle.count.specs.Holders.{Marked}
-use Rattle.count.specs.HolderLaws.{marked-none, marked-more}
+use Rattle.trees.specs.Majority.{isShown}
+use Rattle.trees.specs.TableLaws.{flags-none, flags-more}
 use borrow.Author.Needs.{needs}
 use Rattle.count.proofs.rule.marks.Statement.{statement}
 use Rattle.count.proofs.rule.marks.Tie as tie
@@ -20,7 +21,7 @@ abbrev μ-loop : tie.MeasureT-loop
 loop-holds : tie.Need-loop-holds Inv-loop μ-loop
 loop-holds c =
     let st : tie.Start Inv-loop μ-loop = search needs in
-    (omega arith, st .pre .0, st .pre .2, marked-none _ _ _ _ _)
+    (omega arith, st .pre .0, st .pre .2, flags-none _ (st .args .n) _)
 
 mul-is-shown : tie.Need-mul-is-shown Inv-loop μ-loop
 mul-is-shown c = search needs
@@ -47,8 +48,8 @@ loop-again c =
       omega arith,
       omega arith,
       simp length-set (l .loop .inv .2),
-      marked-more (st .args .t) (st .args .k) (now (st .args .holders)) (st .args .n) (l .loop .v) _
-          (l .loop .keep) (omega (arith, l .loop .inv .2, st .pre .1)) (c .is-shown .ensures) (l .loop .inv .3),
+      flags-more (λ v. isShown (st .args .t) (st .args .k) (entry (now (st .args .holders)) v)) (st .args .n) (l .loop .v) _
+          (l .loop .keep) (l .loop .inv .3) (omega (arith, l .loop .inv .2, st .pre .1)) (c .is-shown .ensures),
     )
 
 returns : tie.Need-returns Inv-loop μ-loop
