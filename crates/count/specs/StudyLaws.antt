@@ -7,12 +7,12 @@ use native.Mathlib.Omega.{arith}
 use lib.ListN.{length, getD}
 use Rattle.trees.specs.Checks.{fewestSamples, mostSamples}
 use Rattle.trees.specs.Valid.{Standard}
-use Rattle.trees.specs.Reporting.{Run}
+use Rattle.trees.specs.Reporting.{Run, agreed}
 use Rattle.trees.specs.Thresholds.{InRange}
 use Rattle.trees.specs.Majority.{majority}
 use Rattle.trees.specs.ListLaws.{member-at, getD-tabulate}
 use Rattle.trees.specs.ReportingLaws.{Runs, Sound}
-use Rattle.trees.specs.MajorityLaws.{majority-sound}
+use Rattle.trees.specs.MajorityLaws.{majority-sound, majority-standard}
 use Rattle.runs.specs.Words.{samples, inForce, slotStart, slotWords, runAt, runs, mostRuns}
 use Rattle.runs.specs.WordLaws.{length-runs}
 use Rattle.runs.specs.SlotLaws.{slot-within, formed-fits, formed-few}
@@ -51,6 +51,9 @@ module _ (w : List ℕ) (n k : ℕ) (study : Study w n k) where
 
   pub study-sound : 0 < k → (t : ℕ) → InRange t → Sound (majority t) n (runs w)
   study-sound h t i = majority-sound t n (runs w) (study-some h) (i .0) study-valid
+
+  pub study-agreed : 0 < k → (t : ℕ) → InRange t → Standard n (agreed (majority t) n (runs w))
+  study-agreed h t i = majority-standard t n (runs w) (study-some h) (i .0) study-valid
 
   pub study-standard : (j : ℕ) → j < k → Standard n (rowAt n w j)
   study-standard j h = let d : Run = runAt n w j in

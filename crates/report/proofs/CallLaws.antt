@@ -7,7 +7,6 @@ use lib.Dec.{eqb}
 use lib.ListN.{length}
 use borrow.Author.Tests.{eqb-false}
 use Rattle.trees.specs.Checks.{Verdict, accepted, refused, Check, line, _⊳_, asked, rowWords}
-use Rattle.trees.specs.Valid.{Standard}
 use Rattle.trees.specs.ChainLaws.{chain-stop, chain-go, chain-passed, line-passes}
 use Rattle.trees.specs.RowCalls.{check3Both}
 use Rattle.trees.specs.RowCallLaws.{both-lengths}
@@ -15,7 +14,6 @@ use Rattle.trees.specs.Reporting.{agreed, supportsOf}
 use Rattle.trees.specs.Thresholds.{leastThreshold, mostThreshold, InRange, threshold}
 use Rattle.trees.specs.Majority.{majority}
 use Rattle.trees.specs.CheckLaws.{outside-not}
-use Rattle.trees.specs.MajorityLaws.{majority-standard}
 use Rattle.runs.specs.Words.{samples, runs}
 use Rattle.runs.specs.Calls.{check2}
 use Rattle.runs.specs.Reports.{check16, reportFormedChecks, reportChecks, ruleOf, reported}
@@ -24,8 +22,7 @@ use Rattle.judge.specs.declared.Answer.{Answer}
 use Rattle.judge.specs.declared.Answer.the-variants.{Accepted, Refused}
 use Rattle.judge.specs.Verdicts.{verdict}
 use Rattle.count.specs.Studies.{Study}
-use Rattle.count.specs.StudyLaws.{study-some, study-valid}
-use Rattle.report.specs.Supports.{givenChecks}
+use Rattle.report.specs.Supports.{givenChecks, BothRows}
 use Rattle.report.specs.ReportedLaws.{report-given}
 
 -- ---- checks 3, 16 and 14
@@ -79,22 +76,17 @@ module _ {w : List ℕ} {n k p t : ℕ} {a s : List ℕ} {r : Answer} (g : Answe
         more zero x = absurd (x refl)
         more (suc j) x = omega arith
 
-    -- so the agreed row is standard
-    pub report-standard : (b : List ℕ) → b ≡ agreed (majority t) n (runs w) → Standard n b
-    report-standard b f = rw f
-        (majority-standard t n (runs w) (study-some w n k (g .study) (report-some .3)) (report-some .2 .0) (study-valid w n k (g .study)))
-
-    pub report-goes : (b c : List ℕ) → b ≡ agreed (majority t) n (runs w) → c ≡ supportsOf n (runs w) b → Left w p a s accepted b c
-    report-goes b c f d = let h = reported-rows w p a s (sym answered ∙ ap verdict q) in (
+    pub report-goes : (b c : List ℕ) → BothRows n (runs w) t b c → Left w p a s accepted b c
+    report-goes b c f = let h = reported-rows w p a s (sym answered ∙ ap verdict q) in (
       sym (ap verdict q) ∙ answered,
-      (same ∙ sym (h .0), d ∙ ap (λ (x : List ℕ). supportsOf n (runs w) x) same ∙ ap (λ (x : ℕ). supportsOf x (runs w) row) (g .study .over) ∙ sym (h .1)),
+      (same ∙ sym (h .0), f .beside ∙ ap (λ (x : List ℕ). supportsOf n (runs w) x) same ∙ ap (λ (x : ℕ). supportsOf x (runs w) row) (g .study .over) ∙ sym (h .1)),
     )
       where
         row : List ℕ
         row = agreed (ruleOf p) (samples w) (runs w)
 
         same : b ≡ row
-        same = f ∙ ap (λ (x : ℕ). agreed (majority x) n (runs w)) (g .stands)
+        same = f .row ∙ ap (λ (x : ℕ). agreed (majority x) n (runs w)) (g .stands)
             ∙ ap (λ (x : ℕ). agreed (ruleOf p) x (runs w)) (g .study .over)
 
 -- ---- check 2

@@ -1,6 +1,8 @@
 // The report of a study: its checks, the agreed row (RULES 5.4) and the support row (RULES 5.5).
 mod thresholds;
 
+pub use thresholds::threshold;
+
 ghost use mathlib.Core.Path.{_≡_};
 ghost use Prim.Native.Nat.{_<_, _≤_};
 ghost use lib.Dec.{eqb};
@@ -8,13 +10,14 @@ ghost use lib.ListN.{length};
 ghost use Rattle.trees.specs.Checks.{accepted, _⊳_, asked, line, mostSamples, rowWords};
 ghost use Rattle.trees.specs.Valid.{Standard};
 ghost use Rattle.trees.specs.Reporting.{supportsOf};
+ghost use Rattle.trees.specs.Thresholds.{InRange};
 ghost use Rattle.trees.specs.Tables.{Tabled, tableWords};
 ghost use Rattle.runs.specs.Words.{runs, mostRuns};
 ghost use Rattle.runs.specs.Formed.{Formed};
 ghost use Rattle.runs.specs.Reports.{reported};
 ghost use Rattle.judge.specs.Verdicts.{verdict};
 ghost use Rattle.count.specs.Studies.{Study};
-ghost use Rattle.report.specs.Supports.{givenChecks, supportWord};
+ghost use Rattle.report.specs.Supports.{givenChecks, supportWord, BothRows};
 use count::agreed_row;
 use count::holders;
 use judge::Answer;
@@ -27,7 +30,6 @@ use passes::Table;
 use slots::in_force;
 use slots::samples;
 use study::study_given;
-use thresholds::threshold;
 use thresholds::threshold_given;
 
 // Check 14: no run is in force (RULES 7.5).
@@ -38,7 +40,7 @@ fn runs_given(k: usize) -> Answer
 }
 
 // Checks 3, 16 and 14, over n samples at threshold t with k runs in force (RULES 7.8).
-fn report_given(n: usize, t: usize, k: usize, agreed: &[u16], support: &[u16]) -> Answer
+pub fn report_given(n: usize, t: usize, k: usize, agreed: &[u16], support: &[u16]) -> Answer
     requires { ⌜ n ≤ mostSamples ⌝ }
     ensures { λ r. ⌜ verdict r ≡ givenChecks n t k (now (agreed .entry)) (now (support .entry)) ⊳ accepted ⌝ }
 {
@@ -68,7 +70,7 @@ fn support_word(n: usize, m: usize, k: usize, holders: &Table, w: usize) -> u16
 }
 
 // Writes these words.
-fn write_supports(n: usize, m: usize, k: usize, holders: &Table, out: &mut [u16])
+pub fn write_supports(n: usize, m: usize, k: usize, holders: &Table, out: &mut [u16])
     requires { ⌜ (m ≤ tableWords) × (k ≤ mostRuns) ⌝ }
     ensures { λ _. ⌜ Tabled (supportWord n m k (now (holders .entry))) 0 (length (now (out .entry))) (now (out .exit)) ⌝ }
 {
@@ -80,13 +82,22 @@ fn write_supports(n: usize, m: usize, k: usize, holders: &Table, out: &mut [u16]
 }
 
 // Writes the support row beside a row.
-fn support_row(n: usize, words: &[u16], k: usize, row: &[u16], out: &mut [u16])
+pub fn support_row(n: usize, words: &[u16], k: usize, row: &[u16], out: &mut [u16])
     requires { ⌜ Study (now words) n k × Standard n (now row) × (length (now out) ≡ rowWords n) ⌝ }
     ensures { λ _. ⌜ now (out .exit) ≡ supportsOf n (runs (now (words .entry))) (now (row .entry)) ⌝ }
 {
     let mut held: Table = [0; TABLE];
     holders(n, words, k, row, &mut held);
     write_supports(n, nodes(row), k, &held, out);
+}
+
+// Writes the agreed row at threshold t, and the support row beside it.
+fn both_rows(n: usize, words: &[u16], k: usize, t: usize, agreed: &mut [u16], support: &mut [u16])
+    requires { ⌜ Study (now words) n k × (0 < k) × (length (now agreed) ≡ rowWords n) × (length (now support) ≡ rowWords n) × InRange t ⌝ }
+    ensures { λ _. ⌜ BothRows n (runs (now (words .entry))) t (now (agreed .exit)) (now (support .exit)) ⌝ }
+{
+    agreed_row(n, words, k, t, agreed, support);
+    support_row(n, words, k, agreed, support);
 }
 
 // The report of a study that is known to be well formed.
@@ -103,8 +114,7 @@ pub fn report_formed(words: &[u16], p: usize, agreed: &mut [u16], support: &mut 
     let Answer::Accepted = a else {
         return a;
     };
-    agreed_row(n, words, k, t, agreed, support);
-    support_row(n, words, k, agreed, support);
+    both_rows(n, words, k, t, agreed, support);
     Answer::Accepted
 }
 

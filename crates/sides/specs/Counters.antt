@@ -3,6 +3,7 @@ use Prim.Native.Nat.{ℕ, _+_, _-_, max}
 use mathlib.Core.List.{List, [], _∷_, _++_}
 use mathlib.Core.Bool.{Bool, cond}
 use lib.Dec.{ltb}
+use lib.ListN.{take}
 use Rattle.trees.specs.Lists.{filter}
 use Rattle.trees.specs.Groups.{Group, conflict}
 use Rattle.trees.specs.Rows.{groups, holds}
@@ -43,6 +44,10 @@ step n w r s = record {
 unfoldable pub tallied : ℕ → List Run → Tally → Tally
 tallied n [] s = s
 tallied n (run ∷ rs) s = tallied n rs (step n (worth run) (run .row) s)
+
+-- the counters after the first i runs
+abbrev pub tallyAt : ℕ → List Run → ℕ → Tally
+tallyAt n rs i = tallied n (take i rs) blank
 
 -- the candidates after all runs
 abbrev pub finalists : ℕ → List Run → List Group

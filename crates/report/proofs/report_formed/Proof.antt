@@ -1,8 +1,7 @@
--- `report::report_formed` refuses, or writes the agreed row and then the support row beside it. Assumes nothing.
-use mathlib.Core.Path.{_∙_}
+-- `report::report_formed` refuses, or writes the agreed row and the support row beside it. Assumes nothing.
 use denote.Ref.{now}
 use Rattle.runs.specs.SlotLaws.{formed-long}
-use Rattle.report.proofs.CallLaws.{Answered, report-stops, report-some, report-standard, report-goes}
+use Rattle.report.proofs.CallLaws.{Answered, report-stops, report-some, report-goes}
 use borrow.Author.Needs.{needs}
 use Rattle.report.proofs.report_formed.Statement.{statement}
 use Rattle.report.proofs.report_formed.Tie as tie
@@ -18,9 +17,6 @@ forced c = search needs
 
 abbrev stood : tie.After-report-given → tie.After-threshold
 stood c = search needs
-
-abbrev shown : tie.After-support-row → tie.After-agreed-row
-shown c = search needs
 
 answered : (c : tie.After-report-given) → Answered (now (began c .args .words)) (sized c .samples .result) (forced c .in-force .result) (began c .args .p)
     (stood c .threshold .result) (now (began c .args .agreed)) (now (began c .args .support)) (c .report-given .result)
@@ -59,22 +55,12 @@ returns c =
     let x : tie.After-report-given = search needs in
     report-stops (answered x) _ _ (c .enum-told2 .given .1)
 
-agreed-row-requires : tie.Need-agreed-row-requires
-agreed-row-requires c κs =
+both-rows-requires : tie.Need-both-rows-requires
+both-rows-requires c κs =
     let x : tie.After-report-given = search needs in
     let t : tie.After-enum-told = search needs in
     let o = report-some (answered x) (t .enum-told .given .1) in
     (answered x .study, o .3, o .0, o .1, o .2)
-
-support-row-requires : tie.Need-support-row-requires
-support-row-requires c κs =
-    let x : tie.After-report-given = search needs in
-    let t : tie.After-enum-told = search needs in
-    let g : tie.After-agreed-row = search needs in (
-      answered x .study,
-      report-standard (answered x) (t .enum-told .given .1) _ (g .agreed-row .ensures),
-      g .agreed-row .kept .1 .1 .1 .1 .1 .0 ∙ report-some (answered x) (t .enum-told .given .1) .1,
-    )
 
 same-length-3 : tie.Need-same-length-3
 same-length-3 c = search needs
@@ -86,8 +72,8 @@ returns-2 : tie.Need-returns-2
 returns-2 c =
     let x : tie.After-report-given = search needs in
     let t : tie.After-enum-told = search needs in
-    let u : tie.After-support-row = search needs in
-    report-goes (answered x) (t .enum-told .given .1) _ _ (shown u .agreed-row .ensures) (u .support-row .ensures)
+    let u : tie.After-both-rows = search needs in
+    report-goes (answered x) (t .enum-told .given .1) _ _ (u .both-rows .ensures)
 
 pub report-formed-spec : {M : Type 1} → statement M
 report-formed-spec =
@@ -102,8 +88,7 @@ report-formed-spec =
     same-length
     same-length-2
     returns
-    agreed-row-requires
-    support-row-requires
+    both-rows-requires
     same-length-3
     same-length-4
     returns-2)
