@@ -37,7 +37,7 @@ fn pack_refusal(number: usize, place: usize) -> u64
 }
 
 // An answer as one number.
-fn pack(a: Answer) -> u64
+pub fn pack(a: Answer) -> u64
     ensures { λ r. ⌜ r ≡ packed (verdict a) ⌝ }
 {
     match a {

@@ -1,6 +1,8 @@
 // The public calls, each with its promise; `c` has them for C.
 mod c;
 
+pub use c::pack;
+
 ghost use mathlib.Core.Path.{_≡_};
 ghost use Rattle.trees.specs.Checks.{judged};
 ghost use Rattle.trees.specs.RowCalls.{renumbering, comparing};
