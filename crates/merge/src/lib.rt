@@ -1,4 +1,6 @@
 // Merging two standard rows: the row of the groups that are kept of either, in time that grows with the number of nodes.
+mod carrying;
+
 ghost use mathlib.Core.Path.{_≡_};
 ghost use mathlib.Core.Bool.{true, cond};
 ghost use lib.Dec.{eqb};
@@ -13,6 +15,8 @@ ghost use Rattle.trees.specs.Passes.{Ranked};
 ghost use Rattle.trees.specs.Merging.{merged, Mergeable};
 ghost use Rattle.trees.specs.Lockstep.{Next, blank, rankOrEnd, Chosen, Given, Numbered};
 ghost use Rattle.trees.specs.Climbing.{Raised, climbed, Lifted, Climbable, parentOf, wordOf};
+ghost use Rattle.merge.specs.Settling.{Settled};
+pub use carrying::carry;
 use judge::MOST_SAMPLES;
 use judge::ROOT_MARK;
 use judge::nodes;
@@ -156,44 +160,6 @@ fn keys(n: usize, row: &[u16], sizes: &mut Table, lows: &mut Table)
 {
     let mut off: Table = [0; TABLE];
     ranks(n, row, sizes, &mut off, lows);
-}
-
-// The same as `lockstep`, with the keys of both rows made here.
-fn numbers(
-    n: usize,
-    a: &[u16],
-    keep_a: &[bool; TABLE],
-    b: &[u16],
-    keep_b: &[bool; TABLE],
-    num_a: &mut Table,
-    num_b: &mut Table,
-    mins: &mut Table,
-) -> usize
-    requires { ⌜ Mergeable n (now a) (now «keep_a») (now b) (now «keep_b»)
-        × (now «num_a» ≡ blank) × (now «num_b» ≡ blank) × (length (now mins) ≡ tableWords) ⌝ }
-    ensures { λ r. ⌜ Numbered n (now (a .entry)) (now («keep_a» .entry)) (now (b .entry)) (now («keep_b» .entry))
-        (now («num_a» .exit)) (now («num_b» .exit)) (now (mins .exit)) r ⌝ }
-{
-    let mut sizes_a: Table = [0; TABLE];
-    let mut lows_a: Table = [0; TABLE];
-    let mut sizes_b: Table = [0; TABLE];
-    let mut lows_b: Table = [0; TABLE];
-    keys(n, a, &mut sizes_a, &mut lows_a);
-    keys(n, b, &mut sizes_b, &mut lows_b);
-    lockstep(
-        n,
-        a,
-        &sizes_a,
-        &lows_a,
-        keep_a,
-        b,
-        &sizes_b,
-        &lows_b,
-        keep_b,
-        num_a,
-        num_b,
-        mins,
-    )
 }
 
 // The larger of two.
@@ -343,7 +309,53 @@ fn write_row(
     }
 }
 
-// Writes the row of the groups that are kept of two standard rows, where these groups agree and the whole is among them.
+// Writes the row of the groups that are kept of two standard rows, where these agree and the whole is among them.
+// It is handed the keys of both rows, and tells at which node each kept group of the first row has come.
+pub fn merge_ranked(
+    n: usize,
+    a: &[u16],
+    sizes_a: &Table,
+    lows_a: &Table,
+    keep_a: &[bool; TABLE],
+    b: &[u16],
+    sizes_b: &Table,
+    lows_b: &Table,
+    keep_b: &[bool; TABLE],
+    num: &mut Table,
+    out: &mut [u16],
+)
+    requires { ⌜ Mergeable n (now a) (now «keep_a») (now b) (now «keep_b»)
+        × Ranked n (now a) (now «sizes_a») (now «lows_a») × Ranked n (now b) (now «sizes_b») (now «lows_b»)
+        × (length (now num) ≡ tableWords) × (length (now out) ≡ rowWords n) ⌝ }
+    ensures { λ _. ⌜ (now (out .exit)
+        ≡ rowOf n (merged n (now (a .entry)) (now («keep_a» .entry)) (now (b .entry)) (now («keep_b» .entry))))
+        × Settled n (now (a .entry)) (now («keep_a» .entry)) (now (num .exit)) (now (out .exit))
+        × (length (now (num .exit)) ≡ tableWords) ⌝ }
+{
+    let mut num_b: Table = [0; TABLE];
+    let mut mins: Table = [0; TABLE];
+    *num = [0; TABLE];
+    let c = lockstep(
+        n,
+        a,
+        sizes_a,
+        lows_a,
+        keep_a,
+        b,
+        sizes_b,
+        lows_b,
+        keep_b,
+        num,
+        &mut num_b,
+        &mut mins,
+    );
+    raise(n, a, num);
+    raise(n, b, &mut num_b);
+    parents(n, a, num, b, &num_b, c, &mut mins);
+    write_row(n, a, num, b, &num_b, &mins, c, out);
+}
+
+// The same row, with the keys made here.
 pub fn merge(
     n: usize,
     a: &[u16],
@@ -355,12 +367,24 @@ pub fn merge(
     requires { ⌜ Mergeable n (now a) (now «keep_a») (now b) (now «keep_b») × (length (now out) ≡ rowWords n) ⌝ }
     ensures { λ _. ⌜ now (out .exit) ≡ rowOf n (merged n (now (a .entry)) (now («keep_a» .entry)) (now (b .entry)) (now («keep_b» .entry))) ⌝ }
 {
-    let mut num_a: Table = [0; TABLE];
-    let mut num_b: Table = [0; TABLE];
-    let mut mins: Table = [0; TABLE];
-    let c = numbers(n, a, keep_a, b, keep_b, &mut num_a, &mut num_b, &mut mins);
-    raise(n, a, &mut num_a);
-    raise(n, b, &mut num_b);
-    parents(n, a, &num_a, b, &num_b, c, &mut mins);
-    write_row(n, a, &num_a, b, &num_b, &mins, c, out);
+    let mut sizes_a: Table = [0; TABLE];
+    let mut lows_a: Table = [0; TABLE];
+    let mut sizes_b: Table = [0; TABLE];
+    let mut lows_b: Table = [0; TABLE];
+    let mut num: Table = [0; TABLE];
+    keys(n, a, &mut sizes_a, &mut lows_a);
+    keys(n, b, &mut sizes_b, &mut lows_b);
+    merge_ranked(
+        n,
+        a,
+        &sizes_a,
+        &lows_a,
+        keep_a,
+        b,
+        &sizes_b,
+        &lows_b,
+        keep_b,
+        &mut num,
+        out,
+    );
 }

@@ -244,7 +244,8 @@ module _ {n : ℕ} {r : List ℕ} (std : Standard n r) where
         go q (inl e) = of-parent q (eqb-true (entry num v) 0 e) (is .next v q h ∙ (rw e))
         go q (inr e) = own (is .next v q h ∙ (rw e)) (inl (eqb-false (entry num v) 0 e))
 
-    own-number : (v : ℕ) → n ≤ v → v < nodes r → (entry num v ≡ 0 → ⊥) → entry up v ≡ entry num v
+    -- a number of its own stays
+    pub own-number : (v : ℕ) → n ≤ v → v < nodes r → (entry num v ≡ 0 → ⊥) → entry up v ≡ entry num v
     own-number v a h x = elim (next v a h) [ own e c ↦ e | of-parent q e f ↦ absurd (x e) ]
 
     -- it is that of a node at or above

@@ -22,16 +22,17 @@ use Rattle.trees.specs.Climbing.{Raised, parentOf, wordOf, Climbable}
 use Rattle.trees.specs.BoolLaws.{or-cases, not-yes, decide}
 use Rattle.trees.specs.GroupLaws.{has-whole}
 use Rattle.trees.specs.MemberLaws.{nth, in-at}
+use Rattle.trees.specs.RowLaws.{at-inner}
 use Rattle.trees.specs.RowOfLaws.{nodes-row, parent-leaf, parent-inner, filler-row}
 use Rattle.trees.specs.FamilyLaws.{Family, last-is, first-whole, some, two, fewer}
-use Rattle.trees.specs.PlantingLaws.{planted-valid}
+use Rattle.trees.specs.PlantingLaws.{planted, planted-valid}
 use Rattle.trees.specs.StandardLaws.{node-before, root-whole}
 use Rattle.trees.specs.NeverLaws.{Tri, less, equal, more, tri}
 use Rattle.trees.specs.FallsLaws.{standard-falls}
 use Rattle.trees.specs.RankLaws.{lowest-in}
 use Rattle.trees.specs.MergingLaws.{in-kept, kept-in, merged-cases, merged-first, merged-second, merged-family}
 use Rattle.trees.specs.LockstepLaws.{place-in, index-before, index-one}
-use Rattle.trees.specs.ClimbingLaws.{Best, Rises, best-nearest, best-parent, up-below}
+use Rattle.trees.specs.ClimbingLaws.{Best, Rises, own-number, best-nearest, best-parent, up-below}
 
 -- ---- the numbers of one side
 
@@ -145,6 +146,18 @@ module _ {n : ℕ} {a : List ℕ} {keepA : List Bool} {b : List ℕ} {keepB : Li
         none : (k : ℕ) → max x y - n < k → k < i - n → has (nth gs k) s ≡ true → In (nth gs k) (kept n a keepA) ⊎ In (nth gs k) (kept n b keepB) → ⊥
         none k u w e (inl m) = omega (arith, low, best-last fam left p k (omega arith) (omega arith) m e)
         none k u w e (inr m) = omega (arith, low, best-last fam right q k (omega arith) (omega arith) m e)
+
+    -- a kept node of the first row, also once numbers are raised, has the number of the merged row's node of its group
+    pub merged-place : {up : List ℕ} → Raised n a numA up → (v : ℕ) → n ≤ v → v < nodes a → flagged keepA v ≡ true
+        → (n ≤ entry up v) × (entry up v < nodes (rowOf n gs)) × (groupAt n (rowOf n gs) (entry up v) ≡ groupAt n a v)
+    merged-place {up} raised v j h e =
+        let p = number-group fam left v j h e in
+        let some : entry numA v ≡ 0 → ⊥ = λ z. omega (arith, p .0, two n gs fam) in
+        let q : entry up v ≡ entry numA v = own-number (ok .first) raised (number-rises fam left) v j h some in
+        let there : entry numA v < nodes (rowOf n gs) = rw nodes-row (p .1) in
+        let i : n + (entry numA v - n) ≡ entry numA v = add-sub-of-le (p .0) in
+        let g = at-inner n (rowOf n gs) (entry numA v - n) (rw i there) in
+        rw q (p .0, there, rw (planted n gs fam (ok .first .valid .most), i, p .2) at (sym g))
 
     low-below : (i : ℕ) → n ≤ i → i < c → entry mins i < n
     low-below i h k =

@@ -1,0 +1,4 @@
+pub mod Settling
+pub mod SettlingLaws
+pub mod Carrying
+pub mod CarryingLaws
