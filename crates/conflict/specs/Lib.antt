@@ -1,0 +1,6 @@
+pub mod Paths
+pub mod Spans
+pub mod SpanLaws
+pub mod PathLaws
+pub mod Gathering
+pub mod GatherLaws
