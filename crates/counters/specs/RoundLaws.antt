@@ -6,7 +6,7 @@ use mathlib.Core.List.{List}
 use mathlib.Core.Bool.{Bool, true, false, _||_, not, cond, false≢true, true≢false}
 use native.Mathlib.Omega.{arith}
 use lib.Dec.{eqb, ltb}
-use lib.ListN.{length}
+use lib.ListN.{length, getD-replicate}
 use borrow.Author.Tests.{eqb-true, eqb-false, eq-eqb, ne-eqb, ltb-true, ltb-false, lt-ltb, le-ltb, not-true, not-false}
 use Rattle.trees.specs.Groups.{Group, has, whole, size, lowest, agree, conflict, member}
 use Rattle.trees.specs.Rows.{nodes, groupAt, groups, inner, holds}
@@ -28,8 +28,8 @@ use Rattle.sides.specs.SideLaws.{conflict-swap, crossed-by, crossed-in, held-pe
 use Rattle.sides.specs.Counters.{Tally, moved, step}
 use Rattle.sides.specs.CounterLaws.{Keeps, moved-contra, moved-neither, moved-falls, round-gain}
 use Rattle.merge.specs.Settling.{Settled}
-use Rattle.merge.specs.Carrying.{Carried}
-use Rattle.counters.specs.Rounds.{Tied, Round, turned, turnedIn, turnedBy, Turned, Entering, weight, Ready, Renewed, Rounded}
+use Rattle.merge.specs.Carrying.{Carried, CarriedOver}
+use Rattle.counters.specs.Rounds.{Tied, Round, turned, turnedIn, turnedBy, Turned, Entering, weight, weights, Ready, Rounded}
 
 -- ---- groups in conflict are not trivial
 
@@ -278,14 +278,18 @@ unit-round n r s q t rs tied = record { low = λ v a b c. go v a b c (decide (eq
         (conflict-swap (groupAt n q v) (x .0) (x .2))))
     go v a b c (inr e) = omega (arith, tied .counted .is v a b, tied .alive v (omega (arith, eqb-false v n e)) b)
 
+new-weight : (x : ℕ) → x < tableWords → entry weights x ≡ weight
+unfolding weights
+new-weight x h = getD-replicate tableWords x weight 0 h
+
 module _ (n : ℕ) (r q t : List ℕ) (rs : Standard n r) (t′ : List ℕ) (keep enter : List Bool)
     (ta : Turned (turnedBy n weight q r t) n (nodes q) t′ keep) (eb : Entering n q r enter) where
   pub ready-mergeable : Ready n q t → Mergeable n q keep r enter
   ready-mergeable y = round-mergeable n weight r (y .f) (y .a) (y .s) (y .keeps) rs q t (y .tied) (omega arith)
       (unit-round n r (y .s) q t rs (y .tied)) t′ keep enter ta eb
 
-  pub rounded : (t″ out : List ℕ) → Renewed n q keep r enter t′ t″ out → Rounded n weight r q t out t″
+  pub rounded : (t″ out : List ℕ) → CarriedOver n q keep r enter t′ weights t″ out → Rounded n weight r q t out t″
   rounded t″ out y = rw (y .row) (record {
-    ties = λ f a s k i. round-tied n weight r f a s k rs q t i (omega arith) (unit-round n r s q t rs i) t′ keep enter ta eb (y .num) (y .fill) t″
-        (rw (y .row) at (y .moves)) (y .new) (y .handed);
+    ties = λ f a s k i. round-tied n weight r f a s k rs q t i (omega arith) (unit-round n r s q t rs i) t′ keep enter ta eb (y .num) weights t″
+        (rw (y .row) at (y .settled)) new-weight (y .carried);
   })

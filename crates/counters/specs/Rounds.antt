@@ -4,15 +4,12 @@ use mathlib.Core.List.{List}
 use mathlib.Core.Bool.{Bool, true, not, cond}
 use mathlib.Core.Path.{_≡_}
 use lib.Dec.{ltb}
-use lib.ListN.{length}
+use lib.ListN.{length, replicate}
 use Rattle.trees.specs.Groups.{Group, size}
 use Rattle.trees.specs.Rows.{nodes, groupAt, inner, holds}
 use Rattle.trees.specs.Valid.{In, Standard}
 use Rattle.trees.specs.Tables.{Tabled, Flags, tableWords, entry}
-use Rattle.trees.specs.Numbering.{rowOf}
-use Rattle.trees.specs.Merging.{flagged, merged}
-use Rattle.merge.specs.Settling.{Settled}
-use Rattle.merge.specs.Carrying.{Carried}
+use Rattle.trees.specs.Merging.{flagged}
 use Rattle.sides.specs.Sides.{conflicts}
 use Rattle.sides.specs.Counters.{Tally, step}
 use Rattle.sides.specs.CounterLaws.{Keeps}
@@ -54,6 +51,10 @@ Entering n q r enter = Flags (λ u. not (conflicts n (groupAt n r u) q)) n (node
 abbrev pub weight : ℕ
 weight = 1
 
+-- a table in which each counter is that of a new candidate
+unfoldable pub weights : List ℕ
+weights = replicate tableWords weight
+
 -- the counters of the nodes from n to below m can take w
 pub record Room (n m w : ℕ) (t : List ℕ) : Type 0 where
   pub fits : (v : ℕ) → n ≤ v → v < m → entry t v + w < 65536
@@ -65,15 +66,6 @@ pub record Ready (n : ℕ) (q t : List ℕ) : Type 0 where
   pub s : Tally
   pub keeps : Keeps f a s
   pub tied : Tied n s q t
-
--- the next candidates: the row of what is kept and what enters; each kept node's counter is handed on, and the others have the weight
-pub record Renewed (n : ℕ) (q : List ℕ) (keep : List Bool) (r : List ℕ) (enter : List Bool) (t′ t″ out : List ℕ) : Type 0 where
-  pub row : out ≡ rowOf n (merged n q keep r enter)
-  pub num : List ℕ
-  pub moves : Settled n q keep num out
-  pub fill : List ℕ
-  pub new : (x : ℕ) → x < tableWords → entry fill x ≡ weight
-  pub handed : Carried n keep num t′ fill (nodes q) t″
 
 -- the new row and table are tied to the next step, whatever the counters were
 pub record Rounded (n w : ℕ) (r q t q′ t″ : List ℕ) : Type 0 where

@@ -10,13 +10,13 @@ ghost use Rattle.trees.specs.Tables.{Tabled, tableWords, entry, sizeAt};
 ghost use Rattle.trees.specs.Passes.{Ranked, Starts};
 ghost use Rattle.trees.specs.Mates.{Tables};
 ghost use Rattle.trees.specs.Merging.{Mergeable};
-ghost use Rattle.counters.specs.Rounds.{turned, turnedIn, turnedBy, Turned, Entering, weight, Room, Ready, Renewed, Rounded};
+ghost use Rattle.merge.specs.Carrying.{CarriedOver};
+ghost use Rattle.counters.specs.Rounds.{turned, turnedIn, turnedBy, Turned, Entering, weight, weights, Room, Ready, Rounded};
 use conflict::agreements;
 use conflict::sides;
 use judge::nodes;
 use mates::tables;
-use merge::carry;
-use merge::merge_ranked;
+use merge::merge_carried;
 use passes::TABLE;
 use passes::Table;
 
@@ -104,15 +104,13 @@ fn renew(
 )
     requires { ⌜ Mergeable n (now candidates) (now keep) (now row) (now enter) × Ranked n (now candidates) (now size) (now low)
         × Ranked n (now row) (now sizes) (now lows) × (length (now fresh) ≡ tableWords) × (length (now out) ≡ rowWords n) ⌝ }
-    ensures { λ _. ⌜ Renewed n (now (candidates .entry)) (now (keep .entry)) (now (row .entry)) (now (enter .entry))
-        (now (counter .entry)) (now (fresh .exit)) (now (out .exit)) ⌝ }
+    ensures { λ _. ⌜ CarriedOver n (now (candidates .entry)) (now (keep .entry)) (now (row .entry)) (now (enter .entry))
+        (now (counter .entry)) weights (now (fresh .exit)) (now (out .exit)) ⌝ }
 {
-    let mut num: Table = [0; TABLE];
-    merge_ranked(
-        n, candidates, size, low, keep, row, sizes, lows, enter, &mut num, out,
-    );
     *fresh = [WEIGHT; TABLE];
-    carry(n, nodes(candidates), keep, &num, counter, fresh);
+    merge_carried(
+        n, candidates, size, low, keep, row, sizes, lows, enter, counter, fresh, out,
+    );
 }
 
 // The round, by the tables of the candidates and of the run's row.

@@ -4,8 +4,11 @@ use mathlib.Core.Path.{_≡_}
 use mathlib.Core.List.{List}
 use mathlib.Core.Bool.{Bool, true}
 use lib.ListN.{length}
+use Rattle.trees.specs.Rows.{nodes}
+use Rattle.trees.specs.Numbering.{rowOf}
 use Rattle.trees.specs.Tables.{tableWords, entry}
-use Rattle.trees.specs.Merging.{flagged}
+use Rattle.trees.specs.Merging.{flagged, merged}
+use Rattle.merge.specs.Settling.{Settled}
 
 -- the kept nodes from n to below m have different numbers, each the place of a word in a table
 pub record Apart (n m : ℕ) (keep : List Bool) (num : List ℕ) : Type 0 where
@@ -18,3 +21,10 @@ pub record Carried (n : ℕ) (keep : List Bool) (num from old : List ℕ) (v : �
   pub words : length t ≡ tableWords
   pub given : (u : ℕ) → n ≤ u → u < v → flagged keep u ≡ true → entry t (entry num u) ≡ entry from u
   pub rest : (x : ℕ) → ((u : ℕ) → n ≤ u → u < v → flagged keep u ≡ true → entry num u ≡ x → ⊥) → entry t x ≡ entry old x
+
+-- out has the kept groups of the rows a and b, and what the kept nodes of a have in `from` stands in t where they have come; all else is as in old
+pub record CarriedOver (n : ℕ) (a : List ℕ) (keepA : List Bool) (b : List ℕ) (keepB : List Bool) (from old t out : List ℕ) : Type 0 where
+  pub row : out ≡ rowOf n (merged n a keepA b keepB)
+  pub num : List ℕ
+  pub settled : Settled n a keepA num out
+  pub carried : Carried n keepA num from old (nodes a) t

@@ -16,7 +16,8 @@ ghost use Rattle.trees.specs.Merging.{merged, Mergeable};
 ghost use Rattle.trees.specs.Lockstep.{Next, blank, rankOrEnd, Chosen, Given, Numbered};
 ghost use Rattle.trees.specs.Climbing.{Raised, climbed, Lifted, Climbable, parentOf, wordOf};
 ghost use Rattle.merge.specs.Settling.{Settled};
-pub use carrying::carry;
+ghost use Rattle.merge.specs.Carrying.{CarriedOver};
+use carrying::carry;
 use judge::MOST_SAMPLES;
 use judge::ROOT_MARK;
 use judge::nodes;
@@ -311,7 +312,7 @@ fn write_row(
 
 // Writes the row of the groups that are kept of two standard rows, where these agree and the whole is among them.
 // It is handed the keys of both rows, and tells at which node each kept group of the first row has come.
-pub fn merge_ranked(
+fn merge_ranked(
     n: usize,
     a: &[u16],
     sizes_a: &Table,
@@ -353,6 +354,34 @@ pub fn merge_ranked(
     raise(n, b, &mut num_b);
     parents(n, a, num, b, &num_b, c, &mut mins);
     write_row(n, a, num, b, &num_b, &mins, c, out);
+}
+
+// The same row, and what the kept nodes of the first row have in a table is carried over to where they have come.
+pub fn merge_carried(
+    n: usize,
+    a: &[u16],
+    sizes_a: &Table,
+    lows_a: &Table,
+    keep_a: &[bool; TABLE],
+    b: &[u16],
+    sizes_b: &Table,
+    lows_b: &Table,
+    keep_b: &[bool; TABLE],
+    from: &Table,
+    to: &mut Table,
+    out: &mut [u16],
+)
+    requires { ⌜ Mergeable n (now a) (now «keep_a») (now b) (now «keep_b»)
+        × Ranked n (now a) (now «sizes_a») (now «lows_a») × Ranked n (now b) (now «sizes_b») (now «lows_b»)
+        × (length (now to) ≡ tableWords) × (length (now out) ≡ rowWords n) ⌝ }
+    ensures { λ _. ⌜ CarriedOver n (now (a .entry)) (now («keep_a» .entry)) (now (b .entry)) (now («keep_b» .entry))
+        (now (from .entry)) (now (to .entry)) (now (to .exit)) (now (out .exit)) ⌝ }
+{
+    let mut num: Table = [0; TABLE];
+    merge_ranked(
+        n, a, sizes_a, lows_a, keep_a, b, sizes_b, lows_b, keep_b, &mut num, out,
+    );
+    carry(n, nodes(a), keep_a, &num, from, to);
 }
 
 // The same row, with the keys made here.

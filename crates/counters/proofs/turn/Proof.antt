@@ -52,7 +52,7 @@ returns c =
     let a = st .args in (
       rounded (a .n) (now (a .row)) (now (a .candidates)) (now (a .counter)) (st .pre .0) _ _ _ (k .count-run .ensures)
           (e .agreements .ensures .0) _ _ (y .renew .ensures),
-      y .renew .ensures .handed .words,
+      y .renew .ensures .carried .words,
     )
 
 pub turn-spec : {M : Type 1} → statement M
