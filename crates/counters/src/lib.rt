@@ -143,8 +143,8 @@ fn turn(
     );
 }
 
-// One round with the run of this row: the next candidates in `out`, and their counters in `fresh`.
-pub fn round(
+// The round, by the tables of the candidates.
+fn round_ranked(
     n: usize,
     row: &[u16],
     candidates: &[u16],
@@ -168,4 +168,25 @@ pub fn round(
     turn(
         n, row, &sizes, &lows, &starts, candidates, size, low, start, counter, fresh, out,
     );
+}
+
+// One round with the run of this row: the next candidates in `out`, and their counters in `fresh`.
+pub fn round(
+    n: usize,
+    row: &[u16],
+    candidates: &[u16],
+    counter: &mut Table,
+    fresh: &mut Table,
+    out: &mut [u16],
+)
+    requires { ⌜ Standard n (now row) × Ready n (now candidates) (now counter) × Room n (nodes (now candidates)) weight (now counter)
+        × (length (now counter) ≡ tableWords) × (length (now fresh) ≡ tableWords) × (length (now out) ≡ rowWords n) ⌝ }
+    ensures { λ _. ⌜ Rounded n weight (now (row .entry)) (now (candidates .entry)) (now (counter .entry)) (now (out .exit))
+        (now (fresh .exit)) × (length (now (fresh .exit)) ≡ tableWords) ⌝ }
+{
+    let mut size: Table = [0; TABLE];
+    let mut low: Table = [0; TABLE];
+    let mut start: Table = [0; TABLE];
+    tables(n, candidates, &mut size, &mut low, &mut start);
+    round_ranked(n, row, candidates, &size, &low, &start, counter, fresh, out);
 }

@@ -1,0 +1,22 @@
+-- The candidates of a study once all runs are counted, and what an exact count leaves of them.
+use Prim.Native.Nat.{ℕ}
+use mathlib.Core.Path.{_≡_}
+use mathlib.Core.List.{List}
+use Rattle.trees.specs.Rows.{nodes}
+use Rattle.trees.specs.Tables.{Tabled}
+use Rattle.trees.specs.Reporting.{agreed}
+use Rattle.trees.specs.Majority.{majority}
+use Rattle.runs.specs.Words.{runs}
+use Rattle.count.specs.Holders.{holdersAt}
+use Rattle.sides.specs.Counters.{tallyAt}
+use Rattle.counters.specs.Rounds.{Tied}
+
+-- q has the candidates after all k runs of the study w
+pub record Candidates (n : ℕ) (w : List ℕ) (k : ℕ) (q : List ℕ) : Type 0 where
+  pub counters : List ℕ
+  pub tied : Tied n (tallyAt n (runs w) k) q counters
+
+-- out is the agreed row of the study w at threshold p, and t has how many runs hold the group of each of its inner nodes
+pub record Agreed (n : ℕ) (w : List ℕ) (p : ℕ) (out t : List ℕ) : Type 0 where
+  pub row : out ≡ agreed (majority p) n (runs w)
+  pub holders : Tabled (holdersAt n (runs w) out) n (nodes out) t
