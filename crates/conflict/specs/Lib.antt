@@ -1,6 +1,8 @@
 pub mod Paths
+pub mod ChildLaws
+pub mod PathLaws
 pub mod Spans
 pub mod SpanLaws
-pub mod PathLaws
+pub mod HullLaws
 pub mod Gathering
 pub mod GatherLaws

@@ -1,4 +1,4 @@
--- The paths of a row's inner nodes: each node begins one, or goes on with its parent's; each node's path goes on with its first inner child.
+-- The paths of a row's inner nodes: each node begins one, or goes on with its parent's as the first inner child.
 use Prim.Native.Nat.{ℕ, _<_}
 use mathlib.Core.Path.{_≡_}
 use mathlib.Core.List.{List}
@@ -7,8 +7,8 @@ use Rattle.trees.specs.Rows.{nodes, parent}
 use Rattle.trees.specs.Tables.{tableWords, entry}
 use Rattle.trees.specs.RowLaws.{Above}
 
--- by the node at which each path begins, and the child with which it goes on: v begins a path, and a sibling of a smaller number goes on with
--- their parent's, or v does
+-- by the node at which the path of each begins, and the child with which it goes on: v begins a path, where a sibling
+-- of a smaller number goes on with their parent's, or v itself goes on
 pub data Goes (r head next : List ℕ) (v : ℕ) : Type 0 where
   begins : entry head v ≡ v → 0 < entry next (parent r v) → entry next (parent r v) < v → Goes r head next v
   goes-on : entry head v ≡ entry head (parent r v) → entry next (parent r v) ≡ v → Goes r head next v

@@ -66,8 +66,9 @@ fn mark_agrees(
     agrees: &mut [bool; TABLE],
 )
     requires { ⌜ (n ≤ mostSamples) × (n ≤ m) × (m ≤ tableWords) × (length (now agrees) ≡ tableWords) ⌝ }
-    ensures { λ _. ⌜ Flags (λ h. covers n (entry (now (size .entry)) h) (entry (now (start .entry)) h) (entry (now (lo .entry)) h)
-        (entry (now (hi .entry)) h)) n m (now (agrees .exit)) × (length (now (agrees .exit)) ≡ tableWords) ⌝ }
+    ensures { λ _. ⌜ Flags (λ h. covers n (entry (now (size .entry)) h) (entry (now (start .entry)) h)
+        (entry (now (lo .entry)) h) (entry (now (hi .entry)) h)) n m (now (agrees .exit))
+        × (length (now (agrees .exit)) ≡ tableWords) ⌝ }
 {
     let mut v = n;
     while v < m {
@@ -79,8 +80,9 @@ fn mark_agrees(
 // Those that have as many samples as the node which they reach.
 fn mark_held(n: usize, m: usize, size: &Table, sizes: &Table, at: &Table, held: &mut [bool; TABLE])
     requires { ⌜ (n ≤ m) × (m ≤ tableWords) × Most (tableWords - 1) m (now at) × (length (now held) ≡ tableWords) ⌝ }
-    ensures { λ _. ⌜ Flags (λ h. eqb (entry (now (size .entry)) h) (entry (now (sizes .entry)) (entry (now (at .entry)) h))) n m
-        (now (held .exit)) × (length (now (held .exit)) ≡ tableWords) ⌝ }
+    ensures { λ _. ⌜ Flags (λ h. eqb (entry (now (size .entry)) h)
+        (entry (now (sizes .entry)) (entry (now (at .entry)) h))) n m (now (held .exit))
+        × (length (now (held .exit)) ≡ tableWords) ⌝ }
 {
     let mut v = n;
     while v < m {
@@ -110,7 +112,7 @@ pub fn agreements(
     mark_agrees(n, nodes(reference), size, start, &lo, &hi, agrees);
 }
 
-// And whether the row, with its sizes, holds it.
+// For each of them, whether another row, with its sizes, holds its group, and whether it agrees with it.
 pub fn sides(
     n: usize,
     reference: &[u16],
@@ -122,7 +124,8 @@ pub fn sides(
     agrees: &mut [bool; TABLE],
 )
     requires { ⌜ Standard n (now reference) × Tabled (sizeAt n (now reference)) 0 (nodes (now reference)) (now size)
-        × Starts n (now reference) (entry (now start)) × Standard n (now row) × Tabled (sizeAt n (now row)) 0 (nodes (now row)) (now sizes)
+        × Starts n (now reference) (entry (now start)) × Standard n (now row)
+        × Tabled (sizeAt n (now row)) 0 (nodes (now row)) (now sizes)
         × (length (now held) ≡ tableWords) × (length (now agrees) ≡ tableWords) ⌝ }
     ensures { λ _. ⌜ Flags (λ h. holds n (groupAt n (now (reference .entry)) h) (now (row .entry))) n
         (nodes (now (reference .entry))) (now (held .exit)) × (length (now (held .exit)) ≡ tableWords) ⌝ }

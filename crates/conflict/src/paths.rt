@@ -1,5 +1,6 @@
-// The paths of a row's inner nodes: the path of each goes on with its first inner child, which in a standard row has the most samples of them.
-// A node that begins a path has at most half of its parent's samples (`begins-half`), so that no way up passes more than a few paths.
+// The paths of a row's inner nodes: the path of each goes on with its first inner child. In a standard row that has the
+// most samples of them, so that a node which begins a path has at most half of its parent's (`begins-half`), and a way
+// up passes few paths.
 ghost use mathlib.Core.Path.{_≡_};
 ghost use Prim.Native.Nat.{_+_, _<_};
 ghost use lib.ListN.{length};

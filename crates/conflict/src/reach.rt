@@ -1,14 +1,16 @@
-// What each node of a reference row reaches in another row: the least node that contains its group, and the hull of those of its children
-// which the group touches. Each node hands its parent what it has got, in one pass over the reference.
+// What each node of a reference row reaches in another row: the least node that contains its group, and the hull of
+// those of its children which the group touches. Each node hands its parent what it has got, in one pass.
 ghost use mathlib.Core.Path.{_≡_};
-ghost use Prim.Native.Nat.{_+_, _<_, _≤_, min};
-ghost use lib.ListN.{length, set};
-ghost use Rattle.trees.specs.Rows.{nodes, parent};
+ghost use Prim.Native.Nat.{_+_, _<_, _≤_};
+ghost use lib.ListN.{length};
+ghost use Rattle.trees.specs.Rows.{nodes};
 ghost use Rattle.trees.specs.Checks.{mostSamples};
 ghost use Rattle.trees.specs.Valid.{Standard};
 ghost use Rattle.trees.specs.Tables.{tableWords, entry};
 ghost use Rattle.conflict.specs.Paths.{Paths, Onward};
-ghost use Rattle.conflict.specs.Gathering.{NodeOrNone, Joins, Levelled, Ends, Begins, Seeding, Handed, Gauged};
+ghost use Rattle.conflict.specs.Spans.{upFrom, lesserOf};
+ghost use Rattle.conflict.specs.Gathering.{NodeOrNone, Joins, Levelled, Ends};
+ghost use Rattle.conflict.specs.Gathering.{reachAt, Stored, Begins, Seeding, Handed, Gauged};
 use crate::paths::NO_NODE;
 use judge::nodes;
 use judge::wide;
@@ -16,7 +18,8 @@ use passes::Table;
 use passes::lesser;
 use passes::step;
 
-// A node of a row that contains a group, or NO_NODE, and the first and the last place of those of its children that the group touches.
+// A node of a row that contains a group, or NO_NODE, and the first and the last place of those of its children that the
+// group touches; the last is counted from the end.
 struct Reach {
     node: u16,
     first: u16,
@@ -26,8 +29,7 @@ struct Reach {
 // The parent of node x, of which whatever x contains touches x alone.
 fn up(row: &[u16], first: &Table, last: &Table, x: usize) -> Reach
     requires { ⌜ (x + 1 < length (now row)) × (x < tableWords) ⌝ }
-    ensures { λ r. ⌜ (r .node ≡ parent (now (row .entry)) x) × (r .first ≡ entry (now (first .entry)) x)
-        × (r .last ≡ entry (now (last .entry)) x) ⌝ }
+    ensures { λ r. ⌜ r ≡ upFrom (now (row .entry)) (entry (now (first .entry))) (entry (now (last .entry))) x ⌝ }
 {
     Reach {
         node: row[x + 1],
@@ -44,7 +46,7 @@ fn begin(head: &Table, v: u16) -> u16
     head[wide(v)]
 }
 
-// Node y, brought up to node x where it is below it on one path.
+// What y reaches, brought up to node x where it is below it on one path.
 fn level(
     n: usize,
     row: &[u16],
@@ -54,14 +56,25 @@ fn level(
     x: u16,
     y: Reach,
 ) -> Reach
-    requires { ⌜ Standard n (now row) × (x < nodes (now row)) × (x < y .node → Onward n (now row) (now next) x (y .node)) ⌝ }
-    ensures { λ r. ⌜ Levelled n (now (row .entry)) (entry (now (first .entry))) (entry (now (last .entry)))
-        x (y .node) (y .first) (y .last) (r .node) (r .first) (r .last) ⌝ }
+    requires { ⌜ Standard n (now row) × (x < nodes (now row))
+        × (x < y .node → Onward n (now row) (now next) x (y .node)) ⌝ }
+    ensures { λ r. ⌜ Levelled n (now (row .entry)) (entry (now (first .entry))) (entry (now (last .entry))) x y r ⌝ }
 {
     if x < y.node {
         return up(row, first, last, wide(next[wide(x)]));
     }
     y
+}
+
+// The lesser of the first and of the last places of two groups at one node.
+fn lesser_of(u: Reach, t: Reach) -> Reach
+    ensures { λ r. ⌜ r ≡ lesserOf u t ⌝ }
+{
+    Reach {
+        node: u.node,
+        first: lesser(u.first, t.first),
+        last: lesser(u.last, t.last),
+    }
 }
 
 // Two nodes on one path, brought to one level.
@@ -77,19 +90,15 @@ fn settle(
     requires { ⌜ Standard n (now row) × (x .node < nodes (now row)) × (y .node < nodes (now row))
         × (x .node < y .node → Onward n (now row) (now next) (x .node) (y .node))
         × (y .node < x .node → Onward n (now row) (now next) (y .node) (x .node)) ⌝ }
-    ensures { λ r. ⌜ Ends n (now (row .entry)) (entry (now (first .entry))) (entry (now (last .entry)))
-        (x .node) (x .first) (x .last) (y .node) (y .first) (y .last) (r .node) (r .first) (r .last) ⌝ }
+    ensures { λ r. ⌜ Ends n (now (row .entry)) (entry (now (first .entry))) (entry (now (last .entry))) x y r ⌝ }
 {
     let u = level(n, row, first, last, next, y.node, x);
     let t = level(n, row, first, last, next, x.node, y);
-    Reach {
-        node: u.node,
-        first: lesser(u.first, t.first),
-        last: lesser(u.last, t.last),
-    }
+    lesser_of(u, t)
 }
 
-// Up from two nodes to the first that is above both: as long as they are on two paths, the one whose path begins at the greater number goes past it.
+// Up from two nodes to the first that is above both: as long as they are on two paths, the one whose path begins at the
+// greater number goes past its beginning.
 fn meet(
     n: usize,
     row: &[u16],
@@ -102,8 +111,7 @@ fn meet(
 ) -> Reach
     requires { ⌜ Standard n (now row) × Paths n (now row) (nodes (now row)) (now head) (now next)
         × (n ≤ a .node) × (a .node < nodes (now row)) × (n ≤ b .node) × (b .node < nodes (now row)) ⌝ }
-    ensures { λ r. ⌜ Joins n (now (row .entry)) (entry (now (first .entry))) (entry (now (last .entry)))
-        (a .node) (a .first) (a .last) (b .node) (b .first) (b .last) (r .node) (r .first) (r .last) ⌝ }
+    ensures { λ r. ⌜ Joins n (now (row .entry)) (entry (now (first .entry))) (entry (now (last .entry))) a b r ⌝ }
 {
     let mut x = a;
     let mut y = b;
@@ -134,8 +142,7 @@ fn join(
 ) -> Reach
     requires { ⌜ Standard n (now row) × Paths n (now row) (nodes (now row)) (now head) (now next)
         × NodeOrNone n (now row) (a .node) × (n ≤ b .node) × (b .node < nodes (now row)) ⌝ }
-    ensures { λ r. ⌜ Joins n (now (row .entry)) (entry (now (first .entry))) (entry (now (last .entry)))
-        (a .node) (a .first) (a .last) (b .node) (b .first) (b .last) (r .node) (r .first) (r .last) ⌝ }
+    ensures { λ r. ⌜ Joins n (now (row .entry)) (entry (now (first .entry))) (entry (now (last .entry))) a b r ⌝ }
 {
     if a.node == NO_NODE {
         return b;
@@ -146,8 +153,7 @@ fn join(
 // The entries of node v.
 fn get(at: &Table, lo: &Table, hi: &Table, v: usize) -> Reach
     requires { ⌜ v < tableWords ⌝ }
-    ensures { λ r. ⌜ (r .node ≡ entry (now (at .entry)) v) × (r .first ≡ entry (now (lo .entry)) v)
-        × (r .last ≡ entry (now (hi .entry)) v) ⌝ }
+    ensures { λ r. ⌜ r ≡ reachAt (now (at .entry)) (now (lo .entry)) (now (hi .entry)) v ⌝ }
 {
     Reach {
         node: at[v],
@@ -158,10 +164,10 @@ fn get(at: &Table, lo: &Table, hi: &Table, v: usize) -> Reach
 
 // Stores them.
 fn put(at: &mut Table, lo: &mut Table, hi: &mut Table, v: usize, t: Reach)
-    requires { ⌜ (v < tableWords) × (length (now at) ≡ tableWords) × (length (now lo) ≡ tableWords)
-        × (length (now hi) ≡ tableWords) ⌝ }
-    ensures { λ _. ⌜ (now (at .exit) ≡ set (now (at .entry)) v (t .node)) × (now (lo .exit) ≡ set (now (lo .entry)) v (t .first))
-        × (now (hi .exit) ≡ set (now (hi .entry)) v (t .last)) ⌝ }
+    requires { ⌜ (v < tableWords)
+        × (length (now at) ≡ tableWords) × (length (now lo) ≡ tableWords) × (length (now hi) ≡ tableWords) ⌝ }
+    ensures { λ _. ⌜ Stored (now (at .entry)) (now (lo .entry)) (now (hi .entry)) v t
+        (now (at .exit)) (now (lo .exit)) (now (hi .exit)) ⌝ }
 {
     at[v] = t.node;
     lo[v] = t.first;
@@ -171,8 +177,7 @@ fn put(at: &mut Table, lo: &mut Table, hi: &mut Table, v: usize, t: Reach)
 // What node v of the reference starts with: a sample is reached by its parent, and an inner node has got nothing.
 fn initial(n: usize, row: &[u16], first: &Table, last: &Table, v: usize) -> Reach
     requires { ⌜ (n ≤ mostSamples) × (n < length (now row)) ⌝ }
-    ensures { λ r. ⌜ Begins n (now (row .entry)) (entry (now (first .entry))) (entry (now (last .entry)))
-        v (r .node) (r .first) (r .last) ⌝ }
+    ensures { λ r. ⌜ Begins n (now (row .entry)) (entry (now (first .entry))) (entry (now (last .entry))) v r ⌝ }
 {
     if v < n {
         return up(row, first, last, v);
@@ -222,7 +227,8 @@ fn hand(
     v: usize,
     p: usize,
 )
-    requires { ⌜ Standard n (now row) × Paths n (now row) (nodes (now row)) (now head) (now next) × (v < tableWords) × (p < tableWords)
+    requires { ⌜ Standard n (now row) × Paths n (now row) (nodes (now row)) (now head) (now next)
+        × (v < tableWords) × (p < tableWords)
         × (length (now at) ≡ tableWords) × (length (now lo) ≡ tableWords) × (length (now hi) ≡ tableWords)
         × NodeOrNone n (now row) (entry (now at) p) × (n ≤ entry (now at) v) × (entry (now at) v < nodes (now row)) ⌝ }
     ensures { λ _. ⌜ Handed n (now (row .entry)) (entry (now (first .entry))) (entry (now (last .entry))) v p
@@ -254,10 +260,11 @@ pub fn gather(
     lo: &mut Table,
     hi: &mut Table,
 )
-    requires { ⌜ Standard n (now reference) × Standard n (now row) × Paths n (now row) (nodes (now row)) (now head) (now next)
+    requires { ⌜ Standard n (now reference) × Standard n (now row)
+        × Paths n (now row) (nodes (now row)) (now head) (now next)
         × (length (now at) ≡ tableWords) × (length (now lo) ≡ tableWords) × (length (now hi) ≡ tableWords) ⌝ }
-    ensures { λ _. ⌜ Gauged n (now (reference .entry)) (now (row .entry)) (entry (now (first .entry))) (entry (now (last .entry)))
-        (now (at .exit)) (now (lo .exit)) (now (hi .exit)) ⌝ }
+    ensures { λ _. ⌜ Gauged n (now (reference .entry)) (now (row .entry))
+        (entry (now (first .entry))) (entry (now (last .entry))) (now (at .exit)) (now (lo .exit)) (now (hi .exit)) ⌝ }
 {
     let m = nodes(reference);
     seed(n, m, row, first, last, at, lo, hi);

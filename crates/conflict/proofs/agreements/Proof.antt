@@ -19,10 +19,9 @@ returns c =
     let st : tie.Start = search needs in
     let g : tie.After-reaches = search needs in
     let k : tie.After-nodes = search needs in
-    let m : tie.After-mark-agrees = search needs in
-    let a = st .args in (
-      reached-agrees (a .n) (now (a .reference)) (now (a .row)) (st .pre .0) (st .pre .3) (now (a .size)) (now (a .start)) _ _ _ (st .pre .1) (st .pre .2)
-          (g .reaches .ensures) _ (k .nodes .ensures) _ (m .mark-agrees .ensures .0),
+    let m : tie.After-mark-agrees = search needs in (
+      reached-agrees _ _ _ (st .pre .0) (st .pre .3) _ (now (st .args .start)) _ _ _ (st .pre .1) (st .pre .2) (g .reaches .ensures) _
+          (k .nodes .ensures) _ (m .mark-agrees .ensures .0),
       m .mark-agrees .ensures .1,
     )
 

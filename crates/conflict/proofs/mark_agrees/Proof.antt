@@ -16,7 +16,8 @@ abbrev inside : ℕ → List ℕ → List ℕ → List ℕ → List ℕ → ℕ 
 inside n size start lo hi h = covers n (entry size h) (entry start h) (entry lo h) (entry hi h)
 
 abbrev Inv-loop : tie.InvT-loop
-Inv-loop n m size start lo hi agrees₀ v₀ agrees v = (n ≤ v) × (v ≤ m) × (length agrees ≡ tableWords) × Flags (inside n size start lo hi) n v agrees
+Inv-loop n m size start lo hi agrees₀ v₀ agrees v = (n ≤ v) × (v ≤ m) × (length agrees ≡ tableWords)
+    × Flags (inside n size start lo hi) n v agrees
 
 abbrev μ-loop : tie.MeasureT-loop
 μ-loop n m size start lo hi agrees₀ v₀ agrees v = m - v
@@ -64,7 +65,8 @@ loop-again : tie.Need-loop-again Inv-loop μ-loop
 loop-again c =
     let l : tie.At-loop Inv-loop μ-loop = search needs in
     let k : tie.After-covers Inv-loop μ-loop = search needs in
-    (omega arith, omega arith, simp length-set (l .loop .inv .2), flags-more _ _ _ _ _ (l .loop .inv .3) (omega (arith, l .loop .inv .2)) (k .covers .ensures))
+    let i = l .loop .inv in
+    (omega arith, omega arith, simp length-set (i .2), flags-more _ _ _ _ _ (i .3) (omega (arith, i .2)) (k .covers .ensures))
 
 returns : tie.Need-returns Inv-loop μ-loop
 returns c =

@@ -67,12 +67,13 @@ loop-again c =
     let st : tie.Start Inv-loop μ-loop = search needs in
     let l : tie.At-loop Inv-loop μ-loop = search needs in
     let w : tie.After-wide Inv-loop μ-loop = search needs in
-    let a = st .args in (
+    let a = st .args in
+    let i = l .loop .inv in (
       omega arith,
       omega arith,
-      simp length-set (l .loop .inv .2),
-      flags-more _ _ _ _ _ (l .loop .inv .3) (omega (arith, l .loop .inv .2))
-          (ap (λ (i : ℕ). eqb (entry (now (a .size)) (l .loop .v)) (entry (now (a .sizes)) i)) (w .wide .ensures .0)),
+      simp length-set (i .2),
+      flags-more _ _ _ _ _ (i .3) (omega (arith, i .2))
+          (ap (λ (u : ℕ). eqb (entry (now (a .size)) (l .loop .v)) (entry (now (a .sizes)) u)) (w .wide .ensures .0)),
     )
 
 returns : tie.Need-returns Inv-loop μ-loop

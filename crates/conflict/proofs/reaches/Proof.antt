@@ -31,8 +31,7 @@ returns c =
     let st : tie.Start = search needs in
     let s : tie.After-spread = search needs in
     let g : tie.After-gather = search needs in
-    let a = st .args in
-    gauged-reached (a .n) (now (a .reference)) (now (a .row)) (now (a .start)) _ _ _ _ _ (s .spread .ensures .0) (s .spread .ensures .1) (g .gather .ensures)
+    gauged-reached _ _ _ (now (st .args .start)) _ _ _ _ _ (s .spread .ensures .0) (s .spread .ensures .1) (g .gather .ensures)
 
 pub reaches-spec : {M : Type 1} → statement M
 reaches-spec = tie.close (tie.spec spread-requires paths-requires gather-requires returns)

@@ -18,12 +18,10 @@ mark-held-requires c κs =
     let st : tie.Start = search needs in
     let g : tie.After-reaches = search needs in
     let k : tie.After-nodes = search needs in
-    let a = st .args in
     let e = k .nodes .ensures in (
       omega (arith, e, st .pre .0 .valid .low),
-      omega (arith, e, few _ _ (standard-falls (a .n) (now (a .reference)) (st .pre .0))),
-      rw e (reached-low (a .n) (now (a .reference)) (now (a .row)) (st .pre .0) (st .pre .3) (now (a .size)) (now (a .start)) _ _ _ (st .pre .1) (st .pre .2)
-          (g .reaches .ensures)),
+      omega (arith, e, few _ _ (standard-falls _ _ (st .pre .0))),
+      rw e (reached-low _ _ _ (now (st .args .start)) _ _ _ (st .pre .3) (g .reaches .ensures)),
       st .pre .5,
     )
 
@@ -36,16 +34,15 @@ returns c =
     let g : tie.After-reaches = search needs in
     let k : tie.After-nodes = search needs in
     let h : tie.After-mark-held = search needs in
-    let m : tie.After-mark-agrees = search needs in
-    let a = st .args in (
+    let m : tie.After-mark-agrees = search needs in (
       (
-        reached-holds (a .n) (now (a .reference)) (now (a .row)) (st .pre .0) (st .pre .3) (now (a .size)) (now (a .start)) _ _ _ (st .pre .1) (st .pre .2)
-            (g .reaches .ensures) (now (a .sizes)) (st .pre .4) _ (k .nodes .ensures) _ (h .mark-held .ensures .0),
+        reached-holds _ _ _ (st .pre .0) (st .pre .3) _ (now (st .args .start)) _ _ _ (st .pre .1) (st .pre .2) (g .reaches .ensures) _
+            (k .nodes .ensures) _ _ (st .pre .4) (h .mark-held .ensures .0),
         h .mark-held .ensures .1,
       ),
       (
-        reached-agrees (a .n) (now (a .reference)) (now (a .row)) (st .pre .0) (st .pre .3) (now (a .size)) (now (a .start)) _ _ _ (st .pre .1) (st .pre .2)
-            (g .reaches .ensures) _ (k .nodes .ensures) _ (m .mark-agrees .ensures .0),
+        reached-agrees _ _ _ (st .pre .0) (st .pre .3) _ (now (st .args .start)) _ _ _ (st .pre .1) (st .pre .2) (g .reaches .ensures) _
+            (k .nodes .ensures) _ (m .mark-agrees .ensures .0),
         m .mark-agrees .ensures .1,
       ),
     )

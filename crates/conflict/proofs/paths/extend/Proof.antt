@@ -42,8 +42,7 @@ returns c =
     let a = st .args in
     let p : tie.After-parent = search needs in
     let z : 0 < entry (now (a .next)) (p .parent .result) = omega arith in
-    paths-begin (a .n) (now (a .row)) (st .pre .0) (a .v) (now (a .head)) (now (a .next)) (st .pre .3) (st .pre .1) (st .pre .2)
-    (rw (p .parent .ensures) at z)
+    paths-begin _ _ (st .pre .0) _ _ _ (st .pre .3) (st .pre .1) (st .pre .2) (rw (p .parent .ensures) at z)
 
 cast-next : tie.Need-cast-next
 cast-next c = search needs
@@ -72,8 +71,7 @@ returns-2 c =
     let a = st .args in
     let p : tie.After-parent = search needs in
     let z : entry (now (a .next)) (p .parent .result) ≡ 0 = omega arith in
-    rw (p .parent .ensures) (paths-on (a .n) (now (a .row)) (st .pre .0) (a .v) (now (a .head)) (now (a .next)) (st .pre .3) (st .pre .1) (st .pre .2)
-    (rw (p .parent .ensures) at z))
+    rw (p .parent .ensures) (paths-on _ _ (st .pre .0) _ _ _ (st .pre .3) (st .pre .1) (st .pre .2) (rw (p .parent .ensures) at z))
 
 pub extend-spec : {M : Type 1} → statement M
 extend-spec =

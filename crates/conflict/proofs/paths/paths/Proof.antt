@@ -34,12 +34,11 @@ add-v c = search needs
 loop-holds : tie.Need-loop-holds Inv-loop μ-loop
 loop-holds c =
     let st : tie.Start Inv-loop μ-loop = search needs in
-    let a = st .args in
     let q : tie.After-nodes Inv-loop μ-loop = search needs in (
       q .nodes .ensures,
       omega arith,
       omega (arith, q .nodes .ensures, st .pre .0 .low),
-      paths-start (a .n) (now (a .row)) (st .pre .0) (now (a .head)) (now (a .next)) (st .pre .1) (st .pre .2),
+      paths-start _ _ (st .pre .0) (now (st .args .head)) _ (st .pre .1) (st .pre .2),
     )
 
 extend-requires : tie.Need-extend-requires Inv-loop μ-loop

@@ -2,7 +2,6 @@
 use mathlib.Core.Logic.{⊎-elim}
 use Prim.Native.Nat.{_≤_, _<_}
 use Rattle.trees.specs.Rows.{nodes}
-use Rattle.trees.specs.Tables.{entry}
 use Rattle.conflict.specs.GatherLaws.{joins-none}
 use denote.Ref.{now}
 use native.Mathlib.Omega.{arith}
@@ -11,11 +10,7 @@ use Rattle.conflict.proofs.reach.join.Statement.{statement}
 use Rattle.conflict.proofs.reach.join.Tie as tie
 
 returns : tie.Need-returns
-returns c =
-    let st : tie.Start = search needs in
-    let a = st .args in
-    joins-none (a .n) (now (a .row)) (st .pre .0) (entry (now (a .first))) (entry (now (a .last))) (a .a .node) (a .a .first) (a .a .last) (a .b .node) (a .b .first)
-    (a .b .last) (omega arith)
+returns c = let st : tie.Start = search needs in joins-none _ _ (st .pre .0) _ _ _ _ (omega arith)
 
 meet-requires : tie.Need-meet-requires
 meet-requires c κs =

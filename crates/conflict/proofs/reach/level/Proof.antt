@@ -22,7 +22,8 @@ element-copy-out-wide c = search needs
 wide-requires-2 : tie.Need-wide-requires-2
 wide-requires-2 c κs = search needs
 
-onward : (c : tie.Then1) → let st : tie.Start = search needs in let a = st .args in Onward (a .n) (now (a .row)) (now (a .next)) (a .x) (a .y .node)
+onward : (c : tie.Then1) → let st : tie.Start = search needs in let a = st .args in
+    Onward (a .n) (now (a .row)) (now (a .next)) (a .x) (a .y .node)
 onward c = let st : tie.Start = search needs in st .pre .2 (omega arith)
 
 -- the node of which the parent is taken
@@ -35,24 +36,20 @@ goes c =
 up-requires : tie.Need-up-requires
 up-requires c κs =
     let st : tie.Start = search needs in
-    let a = st .args in
     let o = onward (search needs) in
-    let e = goes c in
-    (omega (arith, o .high, st .pre .0 .valid .words, st .pre .0 .valid .high), omega (arith, o .high, few _ _ (standard-falls (a .n) (now (a .row)) (st .pre .0))))
+    let e = goes c in (
+      omega (arith, o .high, st .pre .0 .valid .words, st .pre .0 .valid .high),
+      omega (arith, o .high, few _ _ (standard-falls _ _ (st .pre .0))),
+    )
 
 returns : tie.Need-returns
 returns c =
     let st : tie.Start = search needs in
-    let a = st .args in
     let w : tie.After-wide2 = search needs in
-    levelled-up (a .n) (now (a .row)) (st .pre .0) (entry (now (a .first))) (entry (now (a .last))) (now (a .next)) (a .x) (a .y .node) (a .y .first) (a .y .last)
-    (w .wide2 .result) _ _ _ (omega arith) (onward (search needs)) (goes w) (c .up .ensures)
+    levelled-up _ _ (st .pre .0) _ _ _ _ _ (w .wide2 .result) _ (omega arith) (onward (search needs)) (goes w) (c .up .ensures)
 
 returns-2 : tie.Need-returns-2
-returns-2 c =
-    let st : tie.Start = search needs in
-    let a = st .args in
-    levelled-stay (a .n) (now (a .row)) (st .pre .0) (entry (now (a .first))) (entry (now (a .last))) (a .x) (a .y .node) (a .y .first) (a .y .last) (omega arith)
+returns-2 c = let st : tie.Start = search needs in levelled-stay _ _ (st .pre .0) _ _ (st .args .x) (st .args .y) (omega arith)
 
 pub level-spec : {M : Type 1} → statement M
 level-spec =

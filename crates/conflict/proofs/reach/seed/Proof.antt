@@ -4,7 +4,6 @@ use Rattle.trees.specs.Tables.{entry}
 use Rattle.conflict.specs.Gathering.{Seeding}
 use Rattle.conflict.specs.GatherLaws.{seeding-start, seeding-more}
 use mathlib.Core.Path.{_≡_}
-use denote.Ref.{now}
 use native.Mathlib.Omega.{arith}
 use borrow.Author.Needs.{needs}
 use Rattle.conflict.proofs.reach.seed.Statement.{statement}
@@ -19,14 +18,13 @@ abbrev μ-loop : tie.MeasureT-loop
 loop-holds : tie.Need-loop-holds Inv-loop μ-loop
 loop-holds c =
     let st : tie.Start Inv-loop μ-loop = search needs in
-    let a = st .args in
-    (omega arith, seeding-start (a .n) (now (a .row)) (entry (now (a .first))) (entry (now (a .last))) _ _ _ (st .pre .3) (st .pre .4) (st .pre .5))
+    (omega arith, seeding-start _ _ _ _ _ _ _ (st .pre .3, st .pre .4, st .pre .5))
 
 initial-requires : tie.Need-initial-requires Inv-loop μ-loop
 initial-requires c κs = search needs
 
 put-requires : tie.Need-put-requires Inv-loop μ-loop
-put-requires c κs = search needs
+put-requires c κs = let l : tie.At-loop Inv-loop μ-loop = search needs in let e = l .loop .inv .1 .long in (omega arith, e .0, e .1, e .2)
 
 add-v : tie.Need-add-v Inv-loop μ-loop
 add-v c = search needs
@@ -36,15 +34,10 @@ loop-less c = search needs
 
 loop-again : tie.Need-loop-again Inv-loop μ-loop
 loop-again c =
-    let st : tie.Start Inv-loop μ-loop = search needs in
     let l : tie.At-loop Inv-loop μ-loop = search needs in
     let i : tie.After-initial Inv-loop μ-loop = search needs in
     let p : tie.After-put Inv-loop μ-loop = search needs in
-    let a = st .args in (
-      omega arith,
-      seeding-more (a .n) (now (a .row)) (entry (now (a .first))) (entry (now (a .last))) (l .loop .v) (i .initial .result .node) (i .initial .result .first)
-          (i .initial .result .last) (l .loop .at) (l .loop .lo) (l .loop .hi) _ _ _ (omega arith) (l .loop .inv .1) (i .initial .ensures) (p .put .ensures),
-    )
+    (omega arith, seeding-more _ _ _ _ _ _ _ _ _ _ _ _ (omega arith) (l .loop .inv .1) (i .initial .ensures) (p .put .ensures))
 
 returns : tie.Need-returns Inv-loop μ-loop
 returns c =

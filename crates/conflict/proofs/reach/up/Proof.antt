@@ -1,10 +1,6 @@
 -- `conflict::reach::up` reads the parent and the tables of a node. Assumes nothing.
 use Rattle.trees.specs.Rows.{parent}
 use native.Mathlib.Numerals.{add-one}
-use mathlib.Core.Path.{ap}
-use Prim.Native.Nat.{ℕ}
-use lib.ListN.{getD}
-use denote.Ref.{now}
 use borrow.Author.Needs.{needs}
 use Rattle.conflict.proofs.reach.up.Statement.{statement}
 use Rattle.conflict.proofs.reach.up.Tie as tie
@@ -32,9 +28,7 @@ element-copy-out-t16 c = search needs
 
 returns : tie.Need-returns
 unfolding parent
-returns c =
-    let st : tie.Start = search needs in
-    (ap (λ (i : ℕ). getD (now (st .args .row)) i 0) (add-one (st .args .x)), search needs, search needs)
+returns c = let st : tie.Start = search needs in rw (add-one (st .args .x))
 
 pub up-spec : {M : Type 1} → statement M
 up-spec =
