@@ -3,6 +3,8 @@ ghost use mathlib.Core.Path.{_≡_};
 ghost use Prim.Native.Nat.{_<_};
 ghost use lib.ListN.{length};
 ghost use Rattle.trees.specs.Checks.{rowWords};
+ghost use Rattle.trees.specs.Valid.{Standard};
+ghost use Rattle.trees.specs.Reporting.{supportsOf};
 ghost use Rattle.trees.specs.Thresholds.{InRange};
 ghost use Rattle.runs.specs.Words.{runs};
 ghost use Rattle.runs.specs.Formed.{Formed};
@@ -13,13 +15,27 @@ ghost use Rattle.report.specs.Supports.{BothRows};
 ghost use Rattle.arb.specs.Packing.{packed};
 use arb::pack;
 use count::agreed_row;
+use count::holders;
 use judge::Answer;
+use judge::nodes;
+use passes::TABLE;
+use passes::Table;
 use report::report_given;
-use report::support_row;
 use report::threshold;
+use report::write_supports;
 use slots::in_force;
 use slots::samples;
 use study::study_given;
+
+// Writes the support row beside a row.
+fn support_row(n: usize, words: &[u16], k: usize, row: &[u16], out: &mut [u16])
+    requires { ⌜ Study (now words) n k × Standard n (now row) × (length (now out) ≡ rowWords n) ⌝ }
+    ensures { λ _. ⌜ now (out .exit) ≡ supportsOf n (runs (now (words .entry))) (now (row .entry)) ⌝ }
+{
+    let mut held: Table = [0; TABLE];
+    holders(n, words, k, row, &mut held);
+    write_supports(n, nodes(row), k, &held, out);
+}
 
 // Writes the agreed row at threshold t by the plain count, and the support row beside it by one count more.
 fn plain_rows(

@@ -8,8 +8,6 @@ ghost use Prim.Native.Nat.{_<_, _≤_};
 ghost use lib.Dec.{eqb};
 ghost use lib.ListN.{length};
 ghost use Rattle.trees.specs.Checks.{accepted, _⊳_, asked, line, mostSamples, rowWords};
-ghost use Rattle.trees.specs.Valid.{Standard};
-ghost use Rattle.trees.specs.Reporting.{supportsOf};
 ghost use Rattle.trees.specs.Thresholds.{InRange};
 ghost use Rattle.trees.specs.Tables.{Tabled, tableWords};
 ghost use Rattle.runs.specs.Words.{runs, mostRuns};
@@ -18,8 +16,7 @@ ghost use Rattle.runs.specs.Reports.{reported};
 ghost use Rattle.judge.specs.Verdicts.{verdict};
 ghost use Rattle.count.specs.Studies.{Study};
 ghost use Rattle.report.specs.Supports.{givenChecks, supportWord, BothRows};
-use count::agreed_row;
-use count::holders;
+use candidates::agreed_row;
 use judge::Answer;
 use judge::Refusal;
 use judge::line;
@@ -81,23 +78,14 @@ pub fn write_supports(n: usize, m: usize, k: usize, holders: &Table, out: &mut [
     }
 }
 
-// Writes the support row beside a row.
-pub fn support_row(n: usize, words: &[u16], k: usize, row: &[u16], out: &mut [u16])
-    requires { ⌜ Study (now words) n k × Standard n (now row) × (length (now out) ≡ rowWords n) ⌝ }
-    ensures { λ _. ⌜ now (out .exit) ≡ supportsOf n (runs (now (words .entry))) (now (row .entry)) ⌝ }
-{
-    let mut held: Table = [0; TABLE];
-    holders(n, words, k, row, &mut held);
-    write_supports(n, nodes(row), k, &held, out);
-}
-
 // Writes the agreed row at threshold t, and the support row beside it.
 fn both_rows(n: usize, words: &[u16], k: usize, t: usize, agreed: &mut [u16], support: &mut [u16])
     requires { ⌜ Study (now words) n k × (0 < k) × (length (now agreed) ≡ rowWords n) × (length (now support) ≡ rowWords n) × InRange t ⌝ }
     ensures { λ _. ⌜ BothRows n (runs (now (words .entry))) t (now (agreed .exit)) (now (support .exit)) ⌝ }
 {
-    agreed_row(n, words, k, t, agreed, support);
-    support_row(n, words, k, agreed, support);
+    let mut held: Table = [0; TABLE];
+    agreed_row(n, words, k, t, agreed, support, &mut held);
+    write_supports(n, nodes(agreed), k, &held, support);
 }
 
 // The report of a study that is known to be well formed.

@@ -1,4 +1,4 @@
--- `report::support_row` writes the holders of the row. Assumes nothing.
+-- `plain_report::support_row` writes the holders of the row. Assumes nothing.
 use Prim.Native.Nat.{ℕ}
 use mathlib.Core.Path.{_∙_}
 use native.Mathlib.Omega.{arith}
@@ -6,10 +6,10 @@ use lib.ListN.{length-replicate}
 use denote.Ref.{now}
 use Rattle.trees.specs.FallsLaws.{few, standard-falls}
 use Rattle.count.specs.StudyLaws.{study-few}
 use Rattle.report.specs.SupportLaws.{support-row}
 use borrow.Author.Needs.{needs}
-use Rattle.report.proofs.support_row.Statement.{statement}
-use Rattle.report.proofs.support_row.Tie as tie
+use Rattle.plain_report.proofs.support_row.Statement.{statement}
+use Rattle.plain_report.proofs.support_row.Tie as tie
 
 holders-requires : tie.Need-holders-requires
 holders-requires c κs =
