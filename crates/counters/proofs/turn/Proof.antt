@@ -14,7 +14,8 @@ count-run-requires c κs =
 agreements-requires : tie.Need-agreements-requires
 agreements-requires c κs =
     let st : tie.Start = search needs in
-    (st .pre .0, st .pre .1 .ranked .sizes, st .pre .1 .starts, st .pre .2 .tied .standard, search needs)
+    let q = st .pre .2 .tied .standard in
+    (st .pre .0, st .pre .1 .ranked .sizes, st .pre .1 .starts, search needs, search needs)
 
 -- the places before
 abbrev agreed : tie.After-renew → tie.After-agreements

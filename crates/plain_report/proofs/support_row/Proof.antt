@@ -28,7 +28,7 @@ write-supports-requires c κs =
     let st : tie.Start = search needs in
     let a = st .args in
     let d : tie.After-nodes = search needs in
-    (omega (arith, d .nodes .ensures, few _ _ (standard-falls _ _ (st .pre .1))), study-few _ _ _ (st .pre .0))
+    (omega (arith, d .nodes .ensures, few _ _ (standard-falls _ _ (st .pre .1))), omega (arith, study-few _ _ _ (st .pre .0)))
 
 same-length : tie.Need-same-length
 same-length c = search needs
