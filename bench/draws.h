@@ -1,13 +1,14 @@
 // Trees drawn at random, with the same draws each time: first what runs have in common, then what is a run's own.
 #pragma once
 #include "words.h"
-enum shape { RANDOM, CATERPILLAR, BRANCHED, CHAIN };
+enum shape { RANDOM, CATERPILLAR, BRANCHED, CHAIN, SHUFFLED };
 
 // What runs have in common comes in parts, one upon the other: what all runs hold, what four in five hold, what three in five hold.
 enum { PARTS = 3, TURNS = 5 };
 
-// In eighths of a run's groups: half are common to all runs and half its own; or they are common to all, to most, to many runs, or its own.
-static const int alike[PARTS] = {4, 4, 4}, graded[PARTS] = {2, 3, 4};
+// In eighths of a run's groups: half are common to all runs and half its own; they are common to all, to most, to many
+// runs, or its own; or all are its own.
+static const int alike[PARTS] = {4, 4, 4}, graded[PARTS] = {2, 3, 4}, apart[PARTS] = {0, 0, 0};
 
 struct draw { int nodes, open; u16 parent[NODES], tops[SAMPLES]; };
 
@@ -19,6 +20,12 @@ static int below(int bound) {
     return dice % bound;
 }
 
+static void swap(u16 *a, u16 *b) {
+    u16 old = *a;
+    *a = *b;
+    *b = old;
+}
+
 // Joins two of the subtrees that have no parent yet under a new node.
 static void join(struct draw *d, int a, int b) {
     int v = d->nodes++;
@@ -27,9 +34,12 @@ static void join(struct draw *d, int a, int b) {
     d->tops[b] = d->tops[--d->open];
 }
 
+// Caterpillars grow from one subtree.
+static int grows_on(enum shape shape) { return shape == CATERPILLAR || shape == SHUFFLED; }
+
 static void join_until(struct draw *d, enum shape shape, int open) {
     while (d->open > open) {
-        int a = shape == CATERPILLAR ? 0 : below(d->open), b = below(d->open - 1);
+        int a = grows_on(shape) ? 0 : below(d->open), b = below(d->open - 1);
         join(d, a, b < a ? b : b + 1);
     }
 }
@@ -56,17 +66,12 @@ static const struct draw *part_of(const struct draw *parts, int j) {
 }
 
 static void draw_row(struct draw d, enum shape shape, int n, u16 *row) {
+    if (shape == SHUFFLED) swap(&d.tops[0], &d.tops[below(d.open)]);
     join_until(&d, shape, 1);
     d.parent[d.tops[0]] = NO_PARENT;
     memset(row, 0, 2 * n * sizeof *row);
     row[0] = d.nodes;
     memcpy(row + 1, d.parent, d.nodes * sizeof *row);
-}
-
-static void swap(u16 *a, u16 *b) {
-    u16 old = *a;
-    *a = *b;
-    *b = old;
 }
 
 // Numbers the inner nodes anew, every order as likely as another.

@@ -11,6 +11,7 @@ static double now(void) {
 }
 
 static const char *name_of(enum shape shape) {
-    static const char *const names[] = {"Random trees", "Caterpillars", "Random trees with single branches", "Chains above one sample"};
+    static const char *const names[] = {"Random trees", "Caterpillars", "Random trees with single branches",
+        "Chains above one sample", "Caterpillars in orders of their own"};
     return names[shape];
 }

@@ -1,4 +1,5 @@
-// The library's algorithm in plain C: the well-formedness check, and the count of each reference run's groups over all runs.
+// What the library's report is made of, in plain C: the well-formedness check, the tables of a row, how many runs hold
+// each group, and the merge of two rows.
 #pragma once
 #include "words.h"
 
@@ -50,10 +51,14 @@ static int plain_formed(const u16 *words, size_t length) {
 }
 
 // A row read for many comparisons: each group is an interval of places.
-struct reference { u16 size[NODES], least[NODES], start[NODES], place[SAMPLES], turned[SAMPLES], key[SAMPLES]; };
+struct reference {
+    const u16 *row;
+    u16 size[NODES], least[NODES], start[NODES], place[SAMPLES], turned[SAMPLES], key[SAMPLES];
+};
 
 static void read_reference(const u16 *row, int n, struct reference *r) {
     u16 offset[NODES];
+    r->row = row;
     samples(n, r->key);
     sizes_of(row, n, r->size, offset);
     least_of(row, n, r->key, r->least);
@@ -66,8 +71,9 @@ static void read_reference(const u16 *row, int n, struct reference *r) {
 }
 
 // Counts, for each group of the reference, whether this row holds it.
-static void count_row(const struct reference *r, int m, const u16 *row, int n, u16 *count) {
+static void count_row(const struct reference *r, const u16 *row, int n, u16 *count) {
     u16 size[NODES], least[NODES], first[NODES], turned[NODES];
+    int m = r->row[0];
     sizes_of(row, n, size, least);
     least_of(row, n, r->key, least);
     least_of(row, n, r->place, first);
@@ -83,34 +89,38 @@ static void count_row(const struct reference *r, int m, const u16 *row, int n, u
     }
 }
 
-static void holders(const u16 *words, int n, int k, const u16 *row, u16 *count) {
-    struct reference r;
-    read_reference(row, n, &r);
-    for (int v = n; v < row[0]; v++) count[v] = 0;
-    for (int j = 0; j < k; j++) count_row(&r, row[0], run(words, n, j), n, count);
+// How many runs hold each group of the reference.
+static void holders(const u16 *words, int n, int k, const struct reference *r, u16 *count) {
+    for (int v = n; v < r->row[0]; v++) count[v] = 0;
+    for (int j = 0; j < k; j++) count_row(r, run(words, n, j), n, count);
 }
 
-struct side { const u16 *row, *keep; u16 size[NODES], least[NODES], number[NODES], at[SAMPLES]; };
+// One side of a merge: a row that is read, and which of its groups are kept. The merge gives each group a number, and
+// moves a place up from each sample's parent.
+struct side { const struct reference *read; const u16 *keep; u16 number[NODES], at[SAMPLES]; };
 
-static void read_side(struct side *x, const u16 *row, const u16 *keep, int n) {
-    u16 key[SAMPLES];
-    samples(n, key);
-    x->row = row;
+static void set_side(struct side *x, const struct reference *read, const u16 *keep, int n) {
+    x->read = read;
     x->keep = keep;
-    sizes_of(row, n, x->size, x->least);
-    least_of(row, n, key, x->least);
-    for (int s = 0; s < n; s++) x->at[s] = parent(row, s);
+    for (int s = 0; s < n; s++) x->at[s] = parent(read->row, s);
+}
+
+// Whether group i of one side comes before group j of the other (below 0), after it (above 0), or is the same (0).
+static int order_of(const struct reference *a, int i, const struct reference *b, int j) {
+    if (i == a->row[0]) return 1;
+    if (j == b->row[0]) return -1;
+    return a->size[i] != b->size[j] ? b->size[j] - a->size[i] : a->least[i] - b->least[j];
 }
 
 // The numbers of the kept groups of both sides, in order; 0 where a group is not kept. Answers the next free number.
 static int number_both(struct side *a, struct side *b, int n, u16 *least) {
-    int i = n, j = n, next = n;
-    while (i < a->row[0] || j < b->row[0]) {
-        if (i < a->row[0] && !a->keep[i]) a->number[i++] = 0;
-        else if (j < b->row[0] && !b->keep[j]) b->number[j++] = 0;
+    int i = n, j = n, next = n, a_nodes = a->read->row[0], b_nodes = b->read->row[0];
+    while (i < a_nodes || j < b_nodes) {
+        if (i < a_nodes && !a->keep[i]) a->number[i++] = 0;
+        else if (j < b_nodes && !b->keep[j]) b->number[j++] = 0;
         else {
-            int order = i == a->row[0] ? 1 : j == b->row[0] ? -1 : a->size[i] != b->size[j] ? b->size[j] - a->size[i] : a->least[i] - b->least[j];
-            least[next] = order <= 0 ? a->least[i] : b->least[j];
+            int order = order_of(a->read, i, b->read, j);
+            least[next] = order <= 0 ? a->read->least[i] : b->read->least[j];
             if (order <= 0) a->number[i++] = next;
             if (order >= 0) b->number[j++] = next;
             next++;
@@ -119,56 +129,29 @@ static int number_both(struct side *a, struct side *b, int n, u16 *least) {
     return next;
 }
 
+// A group that is not kept gets the number of the nearest one above it that is.
 static void number_dropped(struct side *x, int n) {
-    for (int v = n + 1; v < x->row[0]; v++) if (!x->number[v]) x->number[v] = x->number[parent(x->row, v)];
+    const u16 *row = x->read->row;
+    for (int v = n + 1; v < row[0]; v++) if (!x->number[v]) x->number[v] = x->number[parent(row, v)];
 }
 
 // The nearest kept group above group `i`, which has the sample: the sample's place only moves up.
 static int climb(struct side *x, int sample, int i) {
-    while (x->number[x->at[sample]] >= i) x->at[sample] = parent(x->row, x->at[sample]);
+    while (x->number[x->at[sample]] >= i) x->at[sample] = parent(x->read->row, x->at[sample]);
     return x->number[x->at[sample]];
 }
 
 static int later(int a, int b) { return a > b ? a : b; }
 
-static void merge(const u16 *first, const u16 *keep_first, const u16 *second, const u16 *keep_second, int n, u16 *out) {
-    struct side a, b;
+// The row of the kept groups of both sides, which agree with one another; both keep the root.
+static void merge(struct side *a, struct side *b, int n, u16 *out) {
     u16 least[NODES];
-    read_side(&a, first, keep_first, n);
-    read_side(&b, second, keep_second, n);
-    int m = number_both(&a, &b, n, least);
-    number_dropped(&a, n);
-    number_dropped(&b, n);
+    int m = number_both(a, b, n, least);
+    number_dropped(a, n);
+    number_dropped(b, n);
     memset(out, 0, 2 * n * sizeof *out);
     out[0] = m;
     out[1 + n] = NO_PARENT;
-    for (int s = 0; s < n; s++) out[1 + s] = later(a.number[parent(first, s)], b.number[parent(second, s)]);
-    for (int i = m - 1; i > n; i--) out[1 + i] = later(climb(&a, least[i], i), climb(&b, least[i], i));
-}
-
-// How many runs are tried: a group that is shown is held by one of them.
-static int tried_runs(int k, int p) {
-    int runs = k - p * k / 100;
-    return runs > 0 ? runs : 1;
-}
-
-static void plain_report(const u16 *words, int n, int k, int p, u16 *agreed, u16 *support) {
-    u16 count[NODES], marks[NODES], all[NODES], next[NODES];
-    memset(agreed, 0, 2 * n * sizeof *agreed);
-    memset(support, 0, 2 * n * sizeof *support);
-    agreed[0] = n + 1;
-    for (int s = 0; s < n; s++) agreed[1 + s] = n;
-    agreed[1 + n] = NO_PARENT;
-    for (int v = 0; v < NODES; v++) all[v] = 1;
-    for (int j = 0; j < tried_runs(k, p); j++) {
-        const u16 *row = run(words, n, j);
-        holders(words, n, k, row, count);
-        for (int v = n; v < row[0]; v++) marks[v] = is_shown(count[v], k, p);
-        merge(agreed, all, row, marks, n, next);
-        memcpy(agreed, next, 2 * n * sizeof *agreed);
-    }
-    holders(words, n, k, agreed, count);
-    support[0] = k;
-    for (int s = 0; s < n; s++) support[1 + s] = k;
-    for (int v = n; v < agreed[0]; v++) support[1 + v] = count[v];
+    for (int s = 0; s < n; s++) out[1 + s] = later(a->number[a->at[s]], b->number[b->at[s]]);
+    for (int i = m - 1; i > n; i--) out[1 + i] = later(climb(a, least[i], i), climb(b, least[i], i));
 }

@@ -26,7 +26,7 @@ NEEDS_KIT = {
 WRONG = {
     "toolchain": [["what"]],
     "run-program": [[]],
-    "build-c": [[], ["example.c"]],
+    "build-c": [[], ["example.c"], ["--library"], ["--library", "arb"], ["--library", "arb", "example.c"]],
     "soak": [["--calls"], ["--calls", "many"], ["--what", "1"], ["1"]],
 }
 EXAMPLE = '#include "arb.h"\n#include <stdio.h>\nint main(void) { printf("%u\\n", ARB_NUMBER(arb_open(1, NULL, 0))); return 0; }\n'
