@@ -6,6 +6,7 @@ import argparse
 from random import Random
 from typing import Callable, Iterator, NamedTuple
 
+import calls_candidates
 import calls_compare
 import calls_judge
 import calls_last_checks
@@ -65,6 +66,7 @@ APPENDED: list[Callable[[], Iterator[Call]]] = [
     calls_newick_read.stored,
     calls_newick_write.stored,
     calls_single_branches.stored,
+    calls_candidates.stored,
 ]
 
 SEED = 20250  # with the op's number added, so that no op's calls depend on another's

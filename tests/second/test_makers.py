@@ -9,11 +9,13 @@ from random import Random
 from typing import NamedTuple
 
 import calls
+import calls_candidates
 import calls_judge
 import calls_last_checks
 import calls_nontrivial
 import calls_thresholds
 import material
+import orders
 import rows
 import rules
 import sequences
@@ -427,6 +429,91 @@ def test_stored_refusals_of_thresholds() -> None:
         if number == 16 and call.buffers[0][5] == 0:
             without_runs.add(call.x)
     assert all(set(thresholds.REFUSED) <= asked for asked in (*came.values(), without_runs))
+
+
+# The order of runs
+
+
+def test_orders() -> None:
+    """Every order has as many of k runs as are asked for, each once."""
+    rng = Random(31)
+    for which, k in product(orders.ORDERS, range(1, 16)):
+        for count in range(k + 1):
+            runs = which(rng, k, count)
+            assert len(set(runs)) == len(runs) == count and set(runs) <= set(range(k))
+    assert orders.by_twos(rng, 9, 6) == [0, 1, 4, 5, 8, 2]
+    assert orders.in_turn(rng, 5, 3) == [0, 1, 3] and orders.in_turn(rng, 6, 3) == [0, 2, 4]
+    assert orders.ends_of(rng, 6, 3) == [0, 1, 5] and orders.middle_of(rng, 6, 2) == [2, 3]
+    assert [*orders.near_half(6)] == [2, 3, 4] and [*orders.near_half(7)] == [3, 4]
+
+
+def test_blocks() -> None:
+    """Blocks are as long as asked for; swings end as asked, with each tree ahead in each turn."""
+    rng = Random(32)
+    one, other = orders.in_conflict(rng, 4)
+    assert orders.in_blocks([one, other], [2, 1, 3]) == [one, one, other, one, one, one]
+    for turns, end in product((1, 2, 3), (1, 0, -1)):
+        lengths = orders.swings(rng, turns, end)
+        leads = [sum(lengths[:i:2]) - sum(lengths[1:i:2]) for i in range(1, len(lengths) + 1)]
+        assert leads[-1] == end and len(leads) == 2 * turns + 1
+        assert all(lead > 0 for lead in leads[:-1:2]) and all(lead < 0 for lead in leads[1::2])
+
+
+def test_trees_in_conflict() -> None:
+    """Trees made to conflict do: three in one group each, one with all groups of another."""
+    rng = Random(33)
+    for n in (3, 4, 7, 12) * 5:
+        for one, other in permutations(orders.resolutions(rng, n), 2):
+            assert len(one - other) == 1 and orders.conflict(one - other, other - one)
+        assert orders.conflict(*orders.in_conflict(rng, n))
+        order = shapes.shuffled(rng, list(range(n)))
+        tree = orders.against(rng, order)
+        groups = shapes.proper_groups(shapes.caterpillar_of(order))
+        assert all(orders.conflict(tree, frozenset([group])) for group in groups)
+
+
+def test_chains_and_refinements() -> None:
+    """A tree of a chain has the groups asked for alone; a refined tree is binary."""
+    rng = Random(34)
+    for n in (4, 7, 12):
+        order = shapes.shuffled(rng, list(range(n)))
+        for count in range(n - 1):
+            sizes = set(rng.sample(range(2, n), count))
+            tree, others = orders.chain_tree(order, sizes), set(range(2, n)) - sizes
+            assert tree.issuperset(orders.chain_groups(order, sizes))
+            left_out = [frozenset([group]) for group in orders.chain_groups(order, others)]
+            assert all(orders.conflict(tree, group) for group in left_out)
+        tree = orders.wide(rng, n)
+        assert tree <= orders.refined(rng, tree) and len(orders.refined(rng, tree)) == 2 * n - 1
+
+
+def test_runs_in_orders() -> None:
+    """Runs made in orders are trees, and hold groups as often as asked for, or more."""
+    rng = Random(35)
+    makers = (orders.runs_overruled, orders.runs_of_wide, orders.runs_of_deep)
+    for make, which, k in product(makers, orders.ORDERS, (1, 4, 7)):
+        trees = make(rng, 9, k, k // 2 + 1, which)
+        assert len(trees) == k and max(proper_holders(9, trees)) > k // 2
+        assert all(rules.judge(9, rows.standard_row(9, tree)).number == 0 for tree in trees)
+    for k in (3, 6, 10):
+        trees = orders.runs_of_chain(rng, 7, k, [k - 1, k - 2])
+        assert {k - 1, k - 2} <= set(proper_holders(7, trees))
+
+
+def test_stored_sequences_of_five() -> None:
+    """Every sequence of five trees of three samples is stored."""
+    made = [rules.read_study(call.buffers[0]) for call in calls_candidates.every_five(Random(1))]
+    assert len({tuple(study.runs[run] for run in sorted(study.runs)) for study in made}) == 4**5
+
+
+def test_stored_late_trees() -> None:
+    """Of 1 to 15 runs, groups that just more than half hold, the last ones, are stored."""
+    latest = {k: 0 for k in range(1, 16)}
+    for call in calls_candidates.late_trees(Random(1)):
+        k = call.buffers[0][5]
+        shown = [runs[0] for runs in proper_runs(call) if rules.is_shown(len(runs), k, call.x)]
+        latest[k] = max([latest[k], *shown])
+    assert all(first == k - k // 2 - 1 for k, first in latest.items()), latest
 
 
 # Studies
