@@ -141,7 +141,7 @@ uint64_t arb_add(uint16_t *study, size_t study_length, uint16_t identifier, cons
 uint64_t arb_withdraw(uint16_t *study, size_t study_length, uint16_t identifier);
 
 /* Reporting: writes the agreed row at threshold p and its support row, 2n words each. The study is not written.
-   Refusals: 2, 3 for either output, 16, 14. Stack: 46,080 bytes. */
+   Refusals: 2, 3 for either output, 16, 14. Stack: 44,032 bytes. */
 uint64_t arb_report(const uint16_t *study, size_t study_length, size_t p, uint16_t *agreed, size_t agreed_length, uint16_t *support, size_t support_length);
 
 /* Judging: is the row one tree over n samples? Writes nothing.
@@ -156,7 +156,7 @@ uint64_t arb_renumber(size_t n, const uint16_t *row, size_t row_length, uint16_t
    fewer than all count, each once, and no others: so each count is at most n - 2. The last two together are the distance of the two
    trees: by how many groups they differ. Writes nothing.
    Refusals: 1, 3 for either row, then 5 to 10, of `first` and after that of `second`; there 2n is added to every place, that of 5 and 7 too.
-   Stack: 31,744 bytes. */
+   Stack: 29,696 bytes. */
 uint64_t arb_compare(size_t n, const uint16_t *first, size_t first_length, const uint16_t *second, size_t second_length);
 
 /* Reading Newick: writes the tree of a text over n samples to `out`, 2n words, in standard numbering. In the text each sample stands once and
