@@ -2,7 +2,6 @@
 mod c;
 
 pub use c::pack;
-
 ghost use mathlib.Core.Path.{_≡_};
 ghost use Rattle.trees.specs.Checks.{judged};
 ghost use Rattle.trees.specs.RowCalls.{renumbering, comparing};

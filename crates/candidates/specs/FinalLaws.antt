@@ -1,4 +1,4 @@
--- What an exact count leaves of the candidates is the agreed row, under any rule that shows only groups which are ahead. Assumes nothing.
+-- What an exact count leaves of a row that has every group which the rule passes is the agreed row. Assumes nothing.
 use Prim.Native.Nat.{ℕ, _≤_, _<_}
 use mathlib.Core.Path.{_≡_, sym, ap, _∙_, subst}
 use mathlib.Core.Logic.{⊎-elim}
@@ -8,14 +8,13 @@ use native.Mathlib.Omega.{arith}
 use lib.Dec.{leb}
 use borrow.Author.Tests.{leb-true, le-leb}
 use Rattle.trees.specs.Groups.{Group, whole, size, member}
-use Rattle.trees.specs.Rows.{nodes, groupAt, inner, holds}
+use Rattle.trees.specs.Rows.{nodes, groupAt, inner}
 use Rattle.trees.specs.Valid.{In, Standard}
 use Rattle.trees.specs.Numbering.{rowOf, branching}
 use Rattle.trees.specs.Tables.{Tabled, entry}
 use Rattle.trees.specs.Merging.{flagged, kept, merged, Mergeable}
-use Rattle.trees.specs.Reporting.{Run, Rule, worth, support, held, shown, agreed}
+use Rattle.trees.specs.Reporting.{Run, Rule, support, held, shown, agreed}
 use Rattle.trees.specs.BoolLaws.{and-l, and-r, and-both, or-l, true-eq}
-use Rattle.trees.specs.ListLaws.{weigh-found}
 use Rattle.trees.specs.MemberLaws.{member-filter, strict-filter, strict-unique}
 use Rattle.trees.specs.RowLaws.{in-inner, inner-in, inner-two, group-agree}
 use Rattle.trees.specs.StandardLaws.{root-whole}
@@ -26,39 +25,30 @@ use Rattle.trees.specs.MergingLaws.{in-kept, kept-in, merged-family, merged-cas
 use Rattle.count.specs.Holders.{holdersAt}
 use Rattle.merge.specs.Settling.{Settled}
 use Rattle.merge.specs.Carrying.{Carried}
-use Rattle.sides.specs.Sides.{against}
-use Rattle.sides.specs.Counters.{Tally}
-use Rattle.sides.specs.CounterLaws.{Keeps}
-use Rattle.counters.specs.Rounds.{Tied}
 
--- what is ahead is held
-some-holder : (n : ℕ) (rs : List Run) (g : Group) → 0 < support n rs g → Holder n g rs
-unfolding support
-some-holder n rs g h = weigh-found worth (λ run. holds n g (run .row)) rs h
-
--- a row q of candidates, and flags that say which of its groups the rule passes
+-- a row q that has every group of two samples or more which the rule passes, and flags that say which of its groups pass
 module _ (rule : Rule) (n : ℕ) (rs : List Run) (ok : Runs n rs) (sound : Sound rule n rs)
-    (ahead : (g : Group) → rule n rs g ≡ true → against n rs g < support n rs g) (s : Tally) (keeps : Keeps (support n rs) (against n rs) s)
-    (q t : List ℕ) (tied : Tied n s q t) (keep : List Bool)
+    (holder : (g : Group) → rule n rs g ≡ true → Holder n g rs) (q : List ℕ) (std : Standard n q)
+    (all : (g : Group) → 2 ≤ size g → rule n rs g ≡ true → In g (inner n q)) (keep : List Bool)
     (marked : (v : ℕ) → n ≤ v → v < nodes q → flagged keep v ≡ rule n rs (groupAt n q v)) where
   kept-passes : (x : Group) → In x (kept n q keep) → (rule n rs x ≡ true) × (2 ≤ size x)
   kept-passes x m = let v = in-kept n q keep n x m in (
     ap (rule n rs) (sym (v .4)) ∙ sym (marked (v .0) (v .1) (v .2)) ∙ v .3,
-    rw (← (v .4)) (inner-two n q (tied .standard) (v .0) (v .1) (v .2)),
+    rw (← (v .4)) (inner-two n q std (v .0) (v .1) (v .2)),
   )
 
   passes-kept : (x : Group) → rule n rs x ≡ true → 2 ≤ size x → In x (kept n q keep)
-  passes-kept x e z = let v = in-inner n q x (tied .listed x z (omega (arith, keeps .ahead x, ahead x e))) in
+  passes-kept x e z = let v = in-inner n q x (all x z e) in
       rw (← (v .3)) (kept-in n q keep n (v .0) (v .1) (v .2) (marked (v .0) (v .1) (v .2) ∙ ap (rule n rs) (v .3) ∙ e))
 
   pub final-mergeable : Mergeable n q keep q keep
   final-mergeable = record {
-    first = tied .standard;
-    second = tied .standard;
+    first = std;
+    second = std;
     agree = λ g h m o. let v = in-kept n q keep n g m in let u = in-kept n q keep n h o in
-        rw (← (v .4), ← (u .4)) (group-agree n q (tied .standard .valid) (v .0) (u .0));
-    top = or-l (flagged keep n) (flagged keep n) (marked n (omega arith) (tied .standard .valid .low)
-        ∙ ap (rule n rs) (root-whole n q (tied .standard))
+        rw (← (v .4), ← (u .4)) (group-agree n q (std .valid) (v .0) (u .0));
+    top = or-l (flagged keep n) (flagged keep n) (marked n (omega arith) (std .valid .low)
+        ∙ ap (rule n rs) (root-whole n q std)
         ∙ sound .unanimous (whole n) (λ run m. row-tree n (run .row) (ok run m) .top));
   }
 
@@ -68,9 +58,6 @@ module _ (rule : Rule) (n : ℕ) (rs : List Run) (ok : Runs n rs) (sound : Sound
   final-row = ap (rowOf n) (strict-unique (merged n q keep q keep) (branching (shown rule n rs)) (merged-family final-mergeable .strict)
       (strict-filter (λ g. leb 2 (size g)) (shown rule n rs) (shown-strict rule n rs)) (λ x. true-eq _ _ (to x) (from x)))
     where
-      holder : (x : Group) → rule n rs x ≡ true → Holder n x rs
-      holder x e = some-holder n rs x (omega (arith, ahead x e))
-
       in-shown : (x : Group) → rule n rs x ≡ true → In x (shown rule n rs)
       in-shown x e = shown-member rule n rs x ∙ and-both (rule n rs x) (member x (held n rs)) e (in-held n rs x (holder x e))
 
@@ -104,6 +91,6 @@ module _ (rule : Rule) (n : ℕ) (rs : List Run) (ok : Runs n rs) (sound : Sound
       go x h m =
           let v = in-kept n q keep n (groupAt n out x) m in
           let e : entry num (v .0) ≡ x = node-distinct n out (merged-standard final-mergeable) (entry num (v .0)) x
-                  (moves .high (v .0) (v .1) (v .2) (v .3)) h (moves .same (v .0) (v .1) (v .2) (v .3) ∙ v .4) in
+          (moves .high (v .0) (v .1) (v .2) (v .3)) h (moves .same (v .0) (v .1) (v .2) (v .3) ∙ v .4) in
           subst (λ (y : ℕ). entry t′ y ≡ holdersAt n rs out x) e
           (handed .given (v .0) (v .1) (v .2) (v .3) ∙ exact .is (v .0) (v .1) (v .2) ∙ ap (support n rs) (v .4))

@@ -12,11 +12,12 @@ ghost use Rattle.count.specs.Studies.{Study};
 ghost use Rattle.merge.specs.Carrying.{CarriedOver};
 ghost use Rattle.sides.specs.Counters.{tallyAt};
 ghost use Rattle.counters.specs.Rounds.{Tied};
-ghost use Rattle.candidates.specs.Candidates.{Candidates, Agreed};
+ghost use Rattle.candidates.specs.Candidates.{Candidates, Enough, Agreed};
 use count::bare;
 use count::copy;
 use count::holders;
 use count::marks;
+use count::references;
 use count::run_row;
 use counters::round;
 use judge::nodes;
@@ -62,7 +63,14 @@ fn candidates(n: usize, words: &[u16], k: usize, row: &mut [u16], spare: &mut [u
 }
 
 // Writes the row of the kept groups of a row, and what its nodes have in a table where they have come.
-fn keep_groups(n: usize, row: &[u16], keep: &[bool; TABLE], from: &Table, to: &mut Table, out: &mut [u16])
+fn keep_groups(
+    n: usize,
+    row: &[u16],
+    keep: &[bool; TABLE],
+    from: &Table,
+    to: &mut Table,
+    out: &mut [u16],
+)
     requires { ⌜ Mergeable n (now row) (now keep) (now row) (now keep) × (length (now to) ≡ tableWords) × (length (now out) ≡ rowWords n) ⌝ }
     ensures { λ _. ⌜ CarriedOver n (now (row .entry)) (now (keep .entry)) (now (row .entry)) (now (keep .entry)) (now (from .entry))
         (now (to .entry)) (now (to .exit)) (now (out .exit)) ⌝ }
@@ -72,13 +80,45 @@ fn keep_groups(n: usize, row: &[u16], keep: &[bool; TABLE], from: &Table, to: &m
     let mut low: Table = [0; TABLE];
     ranks(n, row, &mut size, &mut off, &mut low);
     merge_carried(
-        n, row, &size, &low, keep, row, &size, &low, keep, from, to, out,
+        n,
+        row,
+        &size,
+        &low,
+        keep,
+        row,
+        &size,
+        &low,
+        keep,
+        from,
+        to,
+        out,
     );
 }
 
-// What is shown of the candidates at threshold t, by an exact count of their holders: the second pass.
-fn finish(n: usize, words: &[u16], k: usize, t: usize, row: &[u16], out: &mut [u16], held: &mut Table)
-    requires { ⌜ Study (now words) n k × (0 < k) × InRange t × Candidates n (now words) k (now row) × (length (now out) ≡ rowWords n)
+// A row that has every group which can be shown at threshold t: the first run, where it holds each of them; else the candidates of all runs.
+fn enough(n: usize, words: &[u16], k: usize, t: usize, row: &mut [u16], spare: &mut [u16])
+    requires { ⌜ Study (now words) n k × (0 < k) × InRange t × (length (now row) ≡ rowWords n) × (length (now spare) ≡ rowWords n) ⌝ }
+    ensures { λ _. ⌜ Enough n (now (words .entry)) t (now (row .exit)) ⌝ }
+{
+    if references(t, k) == 1 {
+        let first = run_row(n, words, 0);
+        copy(first, row);
+        return;
+    }
+    candidates(n, words, k, row, spare);
+}
+
+// What is shown of such a row at threshold t, by an exact count of the holders of its groups: the second pass.
+fn finish(
+    n: usize,
+    words: &[u16],
+    k: usize,
+    t: usize,
+    row: &[u16],
+    out: &mut [u16],
+    held: &mut Table,
+)
+    requires { ⌜ Study (now words) n k × (0 < k) × InRange t × Enough n (now words) t (now row) × (length (now out) ≡ rowWords n)
         × (length (now held) ≡ tableWords) ⌝ }
     ensures { λ _. ⌜ Agreed n (now (words .entry)) t (now (out .exit)) (now (held .exit)) ⌝ }
 {
@@ -103,6 +143,6 @@ pub fn agreed_row(
         × (length (now held) ≡ tableWords) ⌝ }
     ensures { λ _. ⌜ Agreed n (now (words .entry)) t (now (out .exit)) (now (held .exit)) ⌝ }
 {
-    candidates(n, words, k, spare, out);
+    enough(n, words, k, t, spare, out);
     finish(n, words, k, t, spare, out, held);
 }

@@ -9,3 +9,4 @@ pub use plain::agreed_row;
 pub use plain::bare;
 pub use plain::copy;
 pub use rule::marks;
+pub use rule::references;

@@ -189,7 +189,7 @@ module _ (n w : ℕ) (r : List ℕ) (f a : Group → ℕ) (s : Tally) (k : Keeps
               let u : ℕ = y .0 in
               let e : groupAt n r u ≡ x = y .2 in
               let i : n ≤ u = ⊎-elim
-                  (λ l. absurd (omega (arith, single-small n u, ap size (leaf-group n r (valid-rooted n r (rs .valid)) u l), ap size e))) (λ l. l) (side n u) in
+              (λ l. absurd (omega (arith, single-small n u, ap size (leaf-group n r (valid-rooted n r (rs .valid)) u l), ap size e))) (λ l. l) (side n u) in
               merged-exactly round-mergeable x .1 (inr (rw (← e) (kept-in n r enter n u i (y .1)
               (enters-exactly u i (y .1) ∙ ap (λ (g : Group). ltb 0 (moved n w r s g)) e ∙ lt-ltb 0 (moved n w r s x) h))))
 
@@ -223,7 +223,7 @@ module _ (n w : ℕ) (r : List ℕ) (f a : Group → ℕ) (s : Tally) (k : Keeps
             go (inl m) =
                 let v = in-kept n q keep n g m in
                 let e : entry num (v .0) ≡ x = node-distinct n next std (entry num (v .0)) x (moves .high (v .0) (v .1) (v .2) (v .3)) h
-                        (moves .same (v .0) (v .1) (v .2) (v .3) ∙ v .4) in
+                (moves .same (v .0) (v .1) (v .2) (v .3) ∙ v .4) in
                 subst (λ (y : ℕ). entry t″ y ≡ moved n w r s g) e
                 (handed .given (v .0) (v .1) (v .2) (v .3) ∙ ta .counts .is (v .0) (v .1) (v .2) ∙ sym (moved-node (v .0) (v .1) (v .2))
                 ∙ ap (moved n w r s) (v .4))

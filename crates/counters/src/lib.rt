@@ -82,7 +82,16 @@ fn count_run(
 {
     let mut held: [bool; TABLE] = [false; TABLE];
     let mut agrees: [bool; TABLE] = [false; TABLE];
-    sides(n, candidates, size, start, row, sizes, &mut held, &mut agrees);
+    sides(
+        n,
+        candidates,
+        size,
+        start,
+        row,
+        sizes,
+        &mut held,
+        &mut agrees,
+    );
     sweep(n, nodes(candidates), &held, &agrees, counter, keep);
 }
 
@@ -109,7 +118,18 @@ fn renew(
 {
     *fresh = [WEIGHT; TABLE];
     merge_carried(
-        n, candidates, size, low, keep, row, sizes, lows, enter, counter, fresh, out,
+        n,
+        candidates,
+        size,
+        low,
+        keep,
+        row,
+        sizes,
+        lows,
+        enter,
+        counter,
+        fresh,
+        out,
     );
 }
 
@@ -139,7 +159,18 @@ fn turn(
     count_run(n, candidates, size, start, row, sizes, counter, &mut keep);
     agreements(n, row, sizes, starts, candidates, &mut enter);
     renew(
-        n, candidates, size, low, &keep, row, sizes, lows, &enter, counter, fresh, out,
+        n,
+        candidates,
+        size,
+        low,
+        &keep,
+        row,
+        sizes,
+        lows,
+        &enter,
+        counter,
+        fresh,
+        out,
     );
 }
 
@@ -166,7 +197,18 @@ fn round_ranked(
     let mut starts: Table = [0; TABLE];
     tables(n, row, &mut sizes, &mut lows, &mut starts);
     turn(
-        n, row, &sizes, &lows, &starts, candidates, size, low, start, counter, fresh, out,
+        n,
+        row,
+        &sizes,
+        &lows,
+        &starts,
+        candidates,
+        size,
+        low,
+        start,
+        counter,
+        fresh,
+        out,
     );
 }
 

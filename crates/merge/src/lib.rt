@@ -379,7 +379,17 @@ pub fn merge_carried(
 {
     let mut num: Table = [0; TABLE];
     merge_ranked(
-        n, a, sizes_a, lows_a, keep_a, b, sizes_b, lows_b, keep_b, &mut num, out,
+        n,
+        a,
+        sizes_a,
+        lows_a,
+        keep_a,
+        b,
+        sizes_b,
+        lows_b,
+        keep_b,
+        &mut num,
+        out,
     );
     carry(n, nodes(a), keep_a, &num, from, to);
 }

@@ -2,7 +2,6 @@
 mod thresholds;
 
 pub use thresholds::threshold;
-
 ghost use mathlib.Core.Path.{_≡_};
 ghost use Prim.Native.Nat.{_<_, _≤_};
 ghost use lib.Dec.{eqb};

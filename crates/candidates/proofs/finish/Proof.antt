@@ -12,19 +12,19 @@ use Rattle.candidates.proofs.finish.Tie as tie
 holders-requires : tie.Need-holders-requires
 holders-requires c κs =
     let st : tie.Start = search needs in
-    (st .pre .0, st .pre .3 .tied .standard, refl)
+    (st .pre .0, st .pre .3 .standard, refl)
 
 nodes-requires : tie.Need-nodes-requires
 nodes-requires c κs =
     let st : tie.Start = search needs in
-    let q = st .pre .3 .tied .standard in
+    let q = st .pre .3 .standard in
     omega (arith, q .valid .words, q .valid .least)
 
 marks-requires : tie.Need-marks-requires
 marks-requires c κs =
     let st : tie.Start = search needs in
     let d : tie.After-nodes = search needs in
-    let q = st .pre .3 .tied .standard in
+    let q = st .pre .3 .standard in
     (omega (arith, d .nodes .ensures, q .valid .low), omega (arith, d .nodes .ensures, few _ _ (standard-falls _ _ q)), refl, st .pre .2 .1, study-few _ _ _ (st .pre .0))
 
 -- the places before
