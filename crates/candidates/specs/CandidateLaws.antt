@@ -28,7 +28,8 @@ use Rattle.trees.specs.ReportingLaws.{Holder, total-length}
 use Rattle.trees.specs.MajorityLaws.{majority-held, majority-early}
 use Rattle.runs.specs.Words.{runs, runAt, mostRuns}
 use Rattle.count.specs.Studies.{Study, rowAt}
-use Rattle.count.specs.StudyLaws.{study-least, study-most, study-few, study-length, study-run, study-valid, study-some, study-sound, study-standard}
+use Rattle.count.specs.StudyLaws.{study-least, study-most, study-few, study-length, study-run, study-valid}
+use Rattle.count.specs.StudyLaws.{study-some, study-sound, study-standard}
 use Rattle.count.specs.Plain.{bareRow}
 use Rattle.count.specs.Holders.{holdersAt, Marked}
 use Rattle.count.specs.HolderLaws.{marked-majority}

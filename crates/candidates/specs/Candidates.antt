@@ -1,4 +1,4 @@
--- The candidates of a study once all runs are counted, a row that is enough to count, and what an exact count leaves of it.
+-- The candidates of a study once all runs are counted, a row that is enough to count, and what a count leaves of it.
 use Prim.Native.Nat.{ℕ, _≤_}
 use mathlib.Core.Path.{_≡_}
 use mathlib.Core.List.{List}
@@ -24,7 +24,7 @@ pub record Enough (n : ℕ) (w : List ℕ) (p : ℕ) (q : List ℕ) : Type 0 whe
   pub standard : Standard n q
   pub all : (g : Group) → 2 ≤ size g → majority p n (runs w) g ≡ true → In g (inner n q)
 
--- out is the agreed row of the study w at threshold p, and t has how many runs hold the group of each of its inner nodes
+-- out is the agreed row of the study w at threshold p, and t has how many runs hold the group of each inner node
 pub record Agreed (n : ℕ) (w : List ℕ) (p : ℕ) (out t : List ℕ) : Type 0 where
   pub row : out ≡ agreed (majority p) n (runs w)
   pub holders : Tabled (holdersAt n (runs w) out) n (nodes out) t

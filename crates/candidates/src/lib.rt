@@ -1,5 +1,5 @@
-// The agreed row in two passes over the runs: one keeps the groups that can be shown, the candidates, each with a counter; the other counts
-// exactly how many runs hold each of them.
+// The agreed row in two passes over the runs: one keeps the groups that can be shown, the candidates, each with a
+// counter; the other counts exactly how many runs hold each of them.
 ghost use mathlib.Core.Path.{_≡_};
 ghost use Prim.Native.Nat.{_+_, _<_};
 ghost use lib.ListN.{length};
@@ -71,9 +71,10 @@ fn keep_groups(
     to: &mut Table,
     out: &mut [u16],
 )
-    requires { ⌜ Mergeable n (now row) (now keep) (now row) (now keep) × (length (now to) ≡ tableWords) × (length (now out) ≡ rowWords n) ⌝ }
-    ensures { λ _. ⌜ CarriedOver n (now (row .entry)) (now (keep .entry)) (now (row .entry)) (now (keep .entry)) (now (from .entry))
-        (now (to .entry)) (now (to .exit)) (now (out .exit)) ⌝ }
+    requires { ⌜ Mergeable n (now row) (now keep) (now row) (now keep) × (length (now to) ≡ tableWords)
+        × (length (now out) ≡ rowWords n) ⌝ }
+    ensures { λ _. ⌜ CarriedOver n (now (row .entry)) (now (keep .entry)) (now (row .entry)) (now (keep .entry))
+        (now (from .entry)) (now (to .entry)) (now (to .exit)) (now (out .exit)) ⌝ }
 {
     let mut size: Table = [0; TABLE];
     let mut off: Table = [0; TABLE];
@@ -95,9 +96,11 @@ fn keep_groups(
     );
 }
 
-// A row that has every group which can be shown at threshold t: the first run, where it holds each of them; else the candidates of all runs.
+// A row that has every group which can be shown at threshold t: the first run, where it holds each of them; else the
+// candidates of all runs.
 fn enough(n: usize, words: &[u16], k: usize, t: usize, row: &mut [u16], spare: &mut [u16])
-    requires { ⌜ Study (now words) n k × (0 < k) × InRange t × (length (now row) ≡ rowWords n) × (length (now spare) ≡ rowWords n) ⌝ }
+    requires { ⌜ Study (now words) n k × (0 < k) × InRange t × (length (now row) ≡ rowWords n)
+        × (length (now spare) ≡ rowWords n) ⌝ }
     ensures { λ _. ⌜ Enough n (now (words .entry)) t (now (row .exit)) ⌝ }
 {
     if references(t, k) == 1 {
@@ -118,8 +121,8 @@ fn finish(
     out: &mut [u16],
     held: &mut Table,
 )
-    requires { ⌜ Study (now words) n k × (0 < k) × InRange t × Enough n (now words) t (now row) × (length (now out) ≡ rowWords n)
-        × (length (now held) ≡ tableWords) ⌝ }
+    requires { ⌜ Study (now words) n k × (0 < k) × InRange t × Enough n (now words) t (now row)
+        × (length (now out) ≡ rowWords n) × (length (now held) ≡ tableWords) ⌝ }
     ensures { λ _. ⌜ Agreed n (now (words .entry)) t (now (out .exit)) (now (held .exit)) ⌝ }
 {
     let mut counts: Table = [0; TABLE];
@@ -129,7 +132,8 @@ fn finish(
     keep_groups(n, row, &keep, &counts, held, out);
 }
 
-// The agreed row at threshold t, and how many runs hold the group of each of its inner nodes; `spare` is a buffer to work in.
+// The agreed row at threshold t, and how many runs hold the group of each of its inner nodes; `spare` is a buffer to
+// work in.
 pub fn agreed_row(
     n: usize,
     words: &[u16],
@@ -139,8 +143,8 @@ pub fn agreed_row(
     spare: &mut [u16],
     held: &mut Table,
 )
-    requires { ⌜ Study (now words) n k × (0 < k) × InRange t × (length (now out) ≡ rowWords n) × (length (now spare) ≡ rowWords n)
-        × (length (now held) ≡ tableWords) ⌝ }
+    requires { ⌜ Study (now words) n k × (0 < k) × InRange t × (length (now out) ≡ rowWords n)
+        × (length (now spare) ≡ rowWords n) × (length (now held) ≡ tableWords) ⌝ }
     ensures { λ _. ⌜ Agreed n (now (words .entry)) t (now (out .exit)) (now (held .exit)) ⌝ }
 {
     enough(n, words, k, t, spare, out);

@@ -1,4 +1,4 @@
--- Runs that pass a test are counted run by run, whatever the test; holders are; and marks by holders are the majority rule. Assumes nothing.
+-- Runs that pass a test, such as holders, are counted run by run; and marks by holders are the majority rule. Assumes nothing.
 use Prim.Native.Nat.{ℕ, suc, _+_, _≤_, _<_}
 use mathlib.Core.Path.{_≡_, refl, sym, ap, subst, _∙_}
 use mathlib.Core.List.{List, [], _∷_}

@@ -1,4 +1,4 @@
--- How many runs pass a test with the group of each node of a reference row, counted run by run: so holders are counted. And which nodes are shown.
+-- How many runs pass a test, such as holding it, with the group of each node of a row; and which nodes are shown.
 use Prim.Native.Nat.{ℕ, _+_, _≤_, _<_}
 use mathlib.Core.Path.{_≡_}
 use mathlib.Core.List.{List}

@@ -16,10 +16,11 @@ use Rattle.trees.specs.Tables.{Flags, tableWords, entry}
 use Rattle.trees.specs.Merging.{flagged, kept, merged, Mergeable}
 use Rattle.trees.specs.BoolLaws.{true-eq, not-yes, or-r, decide}
 use Rattle.trees.specs.NeverLaws.{side}
-use Rattle.trees.specs.GroupLaws.{Agree, under, over, aside, conflict-to, agree-to, lowest-has, size-one, size-two, within-whole, single-small}
+use Rattle.trees.specs.GroupLaws.{Agree, under, over, aside, conflict-to, agree-to, lowest-has, size-one, size-two}
+use Rattle.trees.specs.GroupLaws.{within-whole, single-small}
 use Rattle.trees.specs.RowLaws.{length-group, in-inner, inner-in, in-groups, groups-in, leaf-group, valid-rooted, inner-two}
 use Rattle.trees.specs.StandardLaws.{root-whole}
-use Rattle.trees.specs.NodeLaws.{node-distinct}
+use Rattle.trees.specs.NodeLaws.{big-inner, node-distinct}
 use Rattle.trees.specs.FallsLaws.{standard-falls, few}
 use Rattle.trees.specs.NumberingLaws.{row-tree}
 use Rattle.trees.specs.MergingLaws.{agree-sym, in-kept, kept-in, merged-standard, merged-exactly}
@@ -34,11 +35,13 @@ use Rattle.counters.specs.Rounds.{Tied, Round, turned, turnedIn, turnedB
 -- ---- groups in conflict are not trivial
 
 pub conflict-two : (g x : Group) → conflict g x ≡ true → 2 ≤ size x
-conflict-two g x c = ⊎-elim (λ e. absurd (conflict-to g x c (calm (ltb-true (size x) 2 e) (decide (has g (lowest x)))))) (λ e. ltb-false (size x) 2 e) (decide (ltb (size x) 2))
+conflict-two g x c = ⊎-elim (λ e. absurd (conflict-to g x c (calm (ltb-true (size x) 2 e) (decide (has g (lowest x))))))
+    (λ e. ltb-false (size x) 2 e) (decide (ltb (size x) 2))
   where
     only : size x < 2 → (s : ℕ) → has x s ≡ true → s ≡ lowest x
     only h s m = ⊎-elim (eqb-true s (lowest x))
-        (λ e. absurd (omega (arith, size-two x s (lowest x) m (lowest-has x (omega (arith, size-one x s m))) (eqb-false s (lowest x) e)))) (decide (eqb s (lowest x)))
+        (λ e. absurd (omega (arith, size-two x s (lowest x) m (lowest-has x (omega (arith, size-one x s m))) (eqb-false s (lowest x) e))))
+        (decide (eqb s (lowest x)))
 
     calm : size x < 2 → (has g (lowest x) ≡ true) ⊎ (has g (lowest x) ≡ false) → Agree g x
     calm h (inl e) = over (λ s m. rw (only h s m) e)
@@ -50,7 +53,8 @@ whole-peaceful n g l c = conflict-to g (whole n) c (under (within-whole n g l))
 inner-group : (n : ℕ) (q : List ℕ) (g : Group) → In g (inner n q) → In g (groups n q)
 inner-group n q g m = let t = in-inner n q g m in rw (← (t .3)) (groups-in n q (t .0) (t .2))
 
-module _ (n w : ℕ) (r : List ℕ) (f a : Group → ℕ) (s : Tally) (k : Keeps f a s) (rs : Standard n r) (q t : List ℕ) (tied : Tied n s q t) where
+module _ (n w : ℕ) (r : List ℕ) (f a : Group → ℕ) (s : Tally) (k : Keeps f a s) (rs : Standard n r) (q t : List ℕ)
+    (tied : Tied n s q t) where
   -- a candidate that conflicts with something is a node
   at-node : (x y : Group) → conflict y x ≡ true → 0 < s .counter x → In x (inner n q)
   at-node x y c h = tied .listed x (conflict-two y x c) h
@@ -68,9 +72,16 @@ module _ (n w : ℕ) (r : List ℕ) (f a : Group → ℕ) (s : Tally) (k : Keeps
           let x = crossed-in g (groups n q) e in
           let v = in-groups n q (x .0) (x .1) in
           let c : conflict g (groupAt n q (v .0)) ≡ true = (rw (v .2) (x .2)) in
-          ⊎-elim (λ h. absurd (omega (arith, conflict-two g (groupAt n q (v .0)) c, single-small n (v .0), ap size (leaf-group n q (valid-rooted n q (tied .standard .valid)) (v .0) h))))
+          ⊎-elim
+          (λ h. absurd (omega (
+            arith,
+            conflict-two g (groupAt n q (v .0)) c,
+            single-small n (v .0),
+            ap size (leaf-group n q (valid-rooted n q (tied .standard .valid)) (v .0) h),
+          )))
           (λ h. ⊎-elim (λ z. absurd (whole-peaceful n g l (rw (eqb-true (v .0) n z, root-whole n q (tied .standard)) at c)))
-          (λ z. crossed-by g (groupAt n q (v .0)) (s .candidates) (k .listed (groupAt n q (v .0)) (tied .alive (v .0) (omega (arith, eqb-false (v .0) n z)) (v .1))) c)
+          (λ z. crossed-by g (groupAt n q (v .0)) (s .candidates)
+          (k .listed (groupAt n q (v .0)) (tied .alive (v .0) (omega (arith, eqb-false (v .0) n z)) (v .1))) c)
           (decide (eqb (v .0) n))) (side n (v .0))
 
   module _ (pos : 0 < w) (round : Round n w r q t) where
@@ -109,7 +120,8 @@ module _ (n w : ℕ) (r : List ℕ) (f a : Group → ℕ) (s : Tally) (k : Keeps
     -- a group with a counter does not conflict with the row
     fresh : (g : Group) → 2 ≤ size g → conflicts n g q ≡ true → s .counter g ≡ 0
     fresh g z c = ⊎-elim (λ e. absurd (true≢false (sym c ∙ held-peaceful n q (tied .standard .valid) g
-        (inner-group n q g (tied .listed g z (ltb-true 0 (s .counter g) e)))))) (λ e. omega (arith, ltb-false 0 (s .counter g) e)) (decide (ltb 0 (s .counter g)))
+        (inner-group n q g (tied .listed g z (ltb-true 0 (s .counter g) e)))))) (λ e. omega (arith, ltb-false 0 (s .counter g) e))
+        (decide (ltb 0 (s .counter g)))
 
     -- THE RUN'S GROUPS: one enters, or stays, exactly if it does not conflict with the row
     pub moved-run : (u : ℕ) → n ≤ u → u < nodes r → ltb 0 (moved n w r s (groupAt n r u)) ≡ not (conflicts n (groupAt n r u) q)
@@ -140,11 +152,13 @@ module _ (n w : ℕ) (r : List ℕ) (f a : Group → ℕ) (s : Tally) (k : Keeps
       -- what is flagged on one side has a counter
       kept-counts : (x : Group) → In x (kept n q keep) → 0 < moved n w r s x
       kept-counts x m = let v = in-kept n q keep n x m in
-          ltb-true 0 (moved n w r s x) (ap (λ (y : Group). ltb 0 (moved n w r s y)) (sym (v .4)) ∙ sym (kept-exactly (v .0) (v .1) (v .2)) ∙ v .3)
+          ltb-true 0 (moved n w r s x)
+          (ap (λ (y : Group). ltb 0 (moved n w r s y)) (sym (v .4)) ∙ sym (kept-exactly (v .0) (v .1) (v .2)) ∙ v .3)
 
       enters-counts : (x : Group) → In x (kept n r enter) → 0 < moved n w r s x
       enters-counts x m = let u = in-kept n r enter n x m in
-          ltb-true 0 (moved n w r s x) (ap (λ (y : Group). ltb 0 (moved n w r s y)) (sym (u .4)) ∙ sym (enters-exactly (u .0) (u .1) (u .2)) ∙ u .3)
+          ltb-true 0 (moved n w r s x)
+          (ap (λ (y : Group). ltb 0 (moved n w r s y)) (sym (u .4)) ∙ sym (enters-exactly (u .0) (u .1) (u .2)) ∙ u .3)
 
       -- and what has one is flagged
       counts-kept : (v : ℕ) → n ≤ v → v < nodes q → 0 < movedAt v → In (groupAt n q v) (kept n q keep)
@@ -188,8 +202,7 @@ module _ (n w : ℕ) (r : List ℕ) (f a : Group → ℕ) (s : Tally) (k : Keeps
           of-run y =
               let u : ℕ = y .0 in
               let e : groupAt n r u ≡ x = y .2 in
-              let i : n ≤ u = ⊎-elim
-              (λ l. absurd (omega (arith, single-small n u, ap size (leaf-group n r (valid-rooted n r (rs .valid)) u l), ap size e))) (λ l. l) (side n u) in
+              let i : n ≤ u = big-inner n r (rs .valid) u (y .1) (rw e z) in
               merged-exactly round-mergeable x .1 (inr (rw (← e) (kept-in n r enter n u i (y .1)
               (enters-exactly u i (y .1) ∙ ap (λ (g : Group). ltb 0 (moved n w r s g)) e ∙ lt-ltb 0 (moved n w r s x) h))))
 
@@ -227,7 +240,8 @@ module _ (n w : ℕ) (r : List ℕ) (f a : Group → ℕ) (s : Tally) (k : Keeps
                 subst (λ (y : ℕ). entry t″ y ≡ moved n w r s g) e
                 (handed .given (v .0) (v .1) (v .2) (v .3) ∙ ta .counts .is (v .0) (v .1) (v .2) ∙ sym (moved-node (v .0) (v .1) (v .2))
                 ∙ ap (moved n w r s) (v .4))
-            go (inr f) = handed .rest x other ∙ new x (omega (arith, h, few n next (standard-falls n next std))) ∙ sym (new-counter g (inner-two n next std x i h) (length-group n next x) entered none)
+            go (inr f) = handed .rest x other ∙ new x (omega (arith, h, few n next (standard-falls n next std)))
+                ∙ sym (new-counter g (inner-two n next std x i h) (length-group n next x) entered none)
               where
                 none : In g (kept n q keep) → ⊥
                 none m = true≢false (sym m ∙ f)
@@ -290,6 +304,6 @@ module _ (n : ℕ) (r q t : List ℕ) (rs : Standard n r) (t′ : List ℕ) (kee
 
   pub rounded : (t″ out : List ℕ) → CarriedOver n q keep r enter t′ weights t″ out → Rounded n weight r q t out t″
   rounded t″ out y = rw (y .row) (record {
-    ties = λ f a s k i. round-tied n weight r f a s k rs q t i (omega arith) (unit-round n r s q t rs i) t′ keep enter ta eb (y .num) weights t″
-        (rw (y .row) at (y .settled)) new-weight (y .carried);
+    ties = λ f a s k i. round-tied n weight r f a s k rs q t i (omega arith) (unit-round n r s q t rs i) t′ keep enter ta eb (y .num)
+        weights t″ (rw (y .row) at (y .settled)) new-weight (y .carried);
   })

@@ -1,4 +1,4 @@
--- The counters over rows: the candidates are the inner groups of a standard row, their counters a table by node. One round counts a run.
+-- The counters over rows: the candidates are the inner groups of a standard row, their counters a table by node.
 use Prim.Native.Nat.{ℕ, _+_, _-_, _≤_, _<_}
 use mathlib.Core.List.{List}
 use mathlib.Core.Bool.{Bool, true, not, cond}

@@ -1,5 +1,5 @@
-// One round of the counters over rows: a run is counted at the candidates, those that come to 0 are dropped, and the groups of the run that
-// agree with all candidates enter.
+// One round of the counters over rows: a run is counted at the candidates, those that come to 0 are dropped, and the
+// groups of the run that agree with all candidates enter.
 ghost use mathlib.Core.Path.{_≡_};
 ghost use Prim.Native.Nat.{_+_, _<_, _≤_};
 ghost use lib.ListN.{length};
@@ -11,7 +11,7 @@ ghost use Rattle.trees.specs.Passes.{Ranked, Starts};
 ghost use Rattle.trees.specs.Mates.{Tables};
 ghost use Rattle.trees.specs.Merging.{Mergeable};
 ghost use Rattle.merge.specs.Carrying.{CarriedOver};
-ghost use Rattle.counters.specs.Rounds.{turned, turnedIn, turnedBy, Turned, Entering, weight, weights, Room, Ready, Rounded};
+ghost use Rattle.counters.specs.Rounds.{turned, turnedIn, turnedBy, Turned, weight, weights, Room, Ready, Rounded};
 use conflict::agreements;
 use conflict::sides;
 use judge::nodes;
@@ -75,8 +75,9 @@ fn count_run(
     keep: &mut [bool; TABLE],
 )
     requires { ⌜ Standard n (now candidates) × Tabled (sizeAt n (now candidates)) 0 (nodes (now candidates)) (now size)
-        × Starts n (now candidates) (entry (now start)) × Standard n (now row) × Tabled (sizeAt n (now row)) 0 (nodes (now row)) (now sizes)
-        × (length (now counter) ≡ tableWords) × (length (now keep) ≡ tableWords) × Room n (nodes (now candidates)) weight (now counter) ⌝ }
+        × Starts n (now candidates) (entry (now start)) × Standard n (now row)
+        × Tabled (sizeAt n (now row)) 0 (nodes (now row)) (now sizes) × (length (now counter) ≡ tableWords)
+        × (length (now keep) ≡ tableWords) × Room n (nodes (now candidates)) weight (now counter) ⌝ }
     ensures { λ _. ⌜ Turned (turnedBy n weight (now (candidates .entry)) (now (row .entry)) (now (counter .entry))) n
         (nodes (now (candidates .entry))) (now (counter .exit)) (now (keep .exit)) ⌝ }
 {
@@ -95,8 +96,8 @@ fn count_run(
     sweep(n, nodes(candidates), &held, &agrees, counter, keep);
 }
 
-// The next candidates: those that stay, and the groups of the run that enter. The counters of those that stay are handed on, and what is new
-// has the weight of the run.
+// The next candidates: those that stay, and the groups of the run that enter. The counters of those that stay are
+// handed on, and what is new has the weight of the run.
 fn renew(
     n: usize,
     candidates: &[u16],
@@ -111,8 +112,9 @@ fn renew(
     fresh: &mut Table,
     out: &mut [u16],
 )
-    requires { ⌜ Mergeable n (now candidates) (now keep) (now row) (now enter) × Ranked n (now candidates) (now size) (now low)
-        × Ranked n (now row) (now sizes) (now lows) × (length (now fresh) ≡ tableWords) × (length (now out) ≡ rowWords n) ⌝ }
+    requires { ⌜ Mergeable n (now candidates) (now keep) (now row) (now enter)
+        × Ranked n (now candidates) (now size) (now low) × Ranked n (now row) (now sizes) (now lows)
+        × (length (now fresh) ≡ tableWords) × (length (now out) ≡ rowWords n) ⌝ }
     ensures { λ _. ⌜ CarriedOver n (now (candidates .entry)) (now (keep .entry)) (now (row .entry)) (now (enter .entry))
         (now (counter .entry)) weights (now (fresh .exit)) (now (out .exit)) ⌝ }
 {
@@ -148,11 +150,12 @@ fn turn(
     fresh: &mut Table,
     out: &mut [u16],
 )
-    requires { ⌜ Standard n (now row) × Tables n (now row) (now sizes) (now lows) (now starts) × Ready n (now candidates) (now counter)
-        × Tables n (now candidates) (now size) (now low) (now start) × Room n (nodes (now candidates)) weight (now counter)
+    requires { ⌜ Standard n (now row) × Tables n (now row) (now sizes) (now lows) (now starts)
+        × Ready n (now candidates) (now counter) × Tables n (now candidates) (now size) (now low) (now start)
+        × Room n (nodes (now candidates)) weight (now counter)
         × (length (now counter) ≡ tableWords) × (length (now fresh) ≡ tableWords) × (length (now out) ≡ rowWords n) ⌝ }
-    ensures { λ _. ⌜ Rounded n weight (now (row .entry)) (now (candidates .entry)) (now (counter .entry)) (now (out .exit))
-        (now (fresh .exit)) × (length (now (fresh .exit)) ≡ tableWords) ⌝ }
+    ensures { λ _. ⌜ Rounded n weight (now (row .entry)) (now (candidates .entry)) (now (counter .entry))
+        (now (out .exit)) (now (fresh .exit)) × (length (now (fresh .exit)) ≡ tableWords) ⌝ }
 {
     let mut keep: [bool; TABLE] = [false; TABLE];
     let mut enter: [bool; TABLE] = [false; TABLE];
@@ -186,11 +189,11 @@ fn round_ranked(
     fresh: &mut Table,
     out: &mut [u16],
 )
-    requires { ⌜ Standard n (now row) × Ready n (now candidates) (now counter) × Tables n (now candidates) (now size) (now low) (now start)
-        × Room n (nodes (now candidates)) weight (now counter) × (length (now counter) ≡ tableWords) × (length (now fresh) ≡ tableWords)
-        × (length (now out) ≡ rowWords n) ⌝ }
-    ensures { λ _. ⌜ Rounded n weight (now (row .entry)) (now (candidates .entry)) (now (counter .entry)) (now (out .exit))
-        (now (fresh .exit)) × (length (now (fresh .exit)) ≡ tableWords) ⌝ }
+    requires { ⌜ Standard n (now row) × Ready n (now candidates) (now counter)
+        × Tables n (now candidates) (now size) (now low) (now start) × Room n (nodes (now candidates)) weight (now counter)
+        × (length (now counter) ≡ tableWords) × (length (now fresh) ≡ tableWords) × (length (now out) ≡ rowWords n) ⌝ }
+    ensures { λ _. ⌜ Rounded n weight (now (row .entry)) (now (candidates .entry)) (now (counter .entry))
+        (now (out .exit)) (now (fresh .exit)) × (length (now (fresh .exit)) ≡ tableWords) ⌝ }
 {
     let mut sizes: Table = [0; TABLE];
     let mut lows: Table = [0; TABLE];
@@ -221,10 +224,11 @@ pub fn round(
     fresh: &mut Table,
     out: &mut [u16],
 )
-    requires { ⌜ Standard n (now row) × Ready n (now candidates) (now counter) × Room n (nodes (now candidates)) weight (now counter)
+    requires { ⌜ Standard n (now row) × Ready n (now candidates) (now counter)
+        × Room n (nodes (now candidates)) weight (now counter)
         × (length (now counter) ≡ tableWords) × (length (now fresh) ≡ tableWords) × (length (now out) ≡ rowWords n) ⌝ }
-    ensures { λ _. ⌜ Rounded n weight (now (row .entry)) (now (candidates .entry)) (now (counter .entry)) (now (out .exit))
-        (now (fresh .exit)) × (length (now (fresh .exit)) ≡ tableWords) ⌝ }
+    ensures { λ _. ⌜ Rounded n weight (now (row .entry)) (now (candidates .entry)) (now (counter .entry))
+        (now (out .exit)) (now (fresh .exit)) × (length (now (fresh .exit)) ≡ tableWords) ⌝ }
 {
     let mut size: Table = [0; TABLE];
     let mut low: Table = [0; TABLE];

@@ -22,8 +22,10 @@ pub record Carried (n : ℕ) (keep : List Bool) (num from old : List ℕ) (v : �
   pub given : (u : ℕ) → n ≤ u → u < v → flagged keep u ≡ true → entry t (entry num u) ≡ entry from u
   pub rest : (x : ℕ) → ((u : ℕ) → n ≤ u → u < v → flagged keep u ≡ true → entry num u ≡ x → ⊥) → entry t x ≡ entry old x
 
--- out has the kept groups of the rows a and b, and what the kept nodes of a have in `from` stands in t where they have come; all else is as in old
-pub record CarriedOver (n : ℕ) (a : List ℕ) (keepA : List Bool) (b : List ℕ) (keepB : List Bool) (from old t out : List ℕ) : Type 0 where
+-- out has the kept groups of the rows a and b, and what the kept nodes of a have in `from` stands in t where they have
+-- come; all else is as in old
+pub record CarriedOver (n : ℕ) (a : List ℕ) (keepA : List Bool) (b : List ℕ) (keepB : List Bool) (from old t out : List ℕ)
+    : Type 0 where
   pub row : out ≡ rowOf n (merged n a keepA b keepB)
   pub num : List ℕ
   pub settled : Settled n a keepA num out

@@ -39,7 +39,8 @@ fn support_row(n: usize, words: &[u16], k: usize, row: &[u16], out: &mut [u16])
 
 // Writes the agreed row at threshold t by the plain count, and the support row beside it by one count more.
 fn plain_rows(n: usize, words: &[u16], k: usize, t: usize, agreed: &mut [u16], support: &mut [u16])
-    requires { ⌜ Study (now words) n k × (0 < k) × (length (now agreed) ≡ rowWords n) × (length (now support) ≡ rowWords n) × InRange t ⌝ }
+    requires { ⌜ Study (now words) n k × (0 < k) × (length (now agreed) ≡ rowWords n)
+        × (length (now support) ≡ rowWords n) × InRange t ⌝ }
     ensures { λ _. ⌜ BothRows n (runs (now (words .entry))) t (now (agreed .exit)) (now (support .exit)) ⌝ }
 {
     agreed_row(n, words, k, t, agreed, support);

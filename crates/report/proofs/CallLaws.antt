@@ -79,7 +79,11 @@ module _ {w : List ℕ} {n k p t : ℕ} {a s : List ℕ} {r : Answer} (g : Answe
     pub report-goes : (b c : List ℕ) → BothRows n (runs w) t b c → Left w p a s accepted b c
     report-goes b c f = let h = reported-rows w p a s (sym answered ∙ ap verdict q) in (
       sym (ap verdict q) ∙ answered,
-      (same ∙ sym (h .0), f .beside ∙ ap (λ (x : List ℕ). supportsOf n (runs w) x) same ∙ ap (λ (x : ℕ). supportsOf x (runs w) row) (g .study .over) ∙ sym (h .1)),
+      (
+        same ∙ sym (h .0),
+        f .beside ∙ ap (λ (x : List ℕ). supportsOf n (runs w) x) same
+            ∙ ap (λ (x : ℕ). supportsOf x (runs w) row) (g .study .over) ∙ sym (h .1),
+      ),
     )
       where
         row : List ℕ

@@ -79,7 +79,8 @@ pub fn write_supports(n: usize, m: usize, k: usize, holders: &Table, out: &mut [
 
 // Writes the agreed row at threshold t, and the support row beside it.
 fn both_rows(n: usize, words: &[u16], k: usize, t: usize, agreed: &mut [u16], support: &mut [u16])
-    requires { ⌜ Study (now words) n k × (0 < k) × (length (now agreed) ≡ rowWords n) × (length (now support) ≡ rowWords n) × InRange t ⌝ }
+    requires { ⌜ Study (now words) n k × (0 < k) × (length (now agreed) ≡ rowWords n)
+        × (length (now support) ≡ rowWords n) × InRange t ⌝ }
     ensures { λ _. ⌜ BothRows n (runs (now (words .entry))) t (now (agreed .exit)) (now (support .exit)) ⌝ }
 {
     let mut held: Table = [0; TABLE];

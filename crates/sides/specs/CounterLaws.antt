@@ -1,4 +1,4 @@
--- After all runs every group that more of them hold than conflict with is a candidate, and the candidates agree; for any weights. Assumes nothing.
+-- After all runs every group that is ahead is a candidate, and the candidates agree; for any weights. Assumes nothing.
 use Prim.Native.Nat.{ℕ, zero, suc, _+_, _-_, _≤_, _<_, zero-le, max}
 use mathlib.Core.Path.{_≡_, refl, sym, ap, _∙_}
 use mathlib.Core.Logic.{_⊎_, inl, inr, ⊎-elim}
@@ -36,7 +36,8 @@ largest-most c t (g ∷ gs) x m e = go (in-cases x g gs m) (λ k. largest-most c
     go (inr k) f = omega (arith, f k)
 
 -- and is one of them, where it is not 0
-pub largest-is : (c : Group → ℕ) (t : Group → Bool) (gs : List Group) → (largest c t gs ≡ 0) ⊎ ((x : Group) × (t x ≡ true) × (c x ≡ largest c t gs))
+pub largest-is : (c : Group → ℕ) (t : Group → Bool) (gs : List Group)
+    → (largest c t gs ≡ 0) ⊎ ((x : Group) × (t x ≡ true) × (c x ≡ largest c t gs))
 unfolding largest
 largest-is c t [] = inl refl
 largest-is c t (g ∷ gs) = go (decide (t g)) (decide (ltb (largest c t gs) (c g))) (largest-is c t gs)
@@ -52,8 +53,9 @@ largest-is c t (g ∷ gs) = go (decide (t g)) (decide (ltb (largest c t gs) (c g
 
 -- ---- what the counters say
 
--- Of every group whatever, with f runs for it and a against: what it is ahead by is no more than its counter; each counter in conflict with it counts against it;
--- groups in conflict are not both candidates; and what has a counter is a candidate, and nothing else is.
+-- Of every group whatever, with f runs for it and a against: what it is ahead by is no more than its counter; each counter in
+-- conflict with it counts against it; groups in conflict are not both candidates; and what has a counter is a candidate, and
+-- nothing else is.
 pub record Keeps (f a : Group → ℕ) (s : Tally) : Type 0 where
   pub ahead : (g : Group) → f g ≤ a g + s .counter g
   pub behind : (g x : Group) → conflict g x ≡ true → f g + s .counter x ≤ a g + s .counter g
@@ -63,7 +65,13 @@ pub record Keeps (f a : Group → ℕ) (s : Tally) : Type 0 where
 
 pub blank-keeps : Keeps (λ g. 0) (λ g. 0) blank
 unfolding blank
-blank-keeps = record { ahead = λ g. zero-le; behind = λ g x e. zero-le; peace = λ g x e h. refl; listed = λ g h. absurd (omega arith); alive = λ g m. absurd (in-none g m) }
+blank-keeps = record {
+  ahead = λ g. zero-le;
+  behind = λ g x e. zero-le;
+  peace = λ g x e h. refl;
+  listed = λ g h. absurd (omega arith);
+  alive = λ g m. absurd (in-none g m);
+}
 
 -- what a run does to one group
 pub data Side (n : ℕ) (r : List ℕ) (g : Group) : Type 0 where
@@ -114,7 +122,8 @@ module _ (n w : ℕ) (r : List ℕ) (ok : Valid n r) (f a : Group → ℕ) (s : 
   gain : (g : Group) → f g + w ≤ a g + (s .counter g + (w - rival s g))
   gain g = go (largest-is (s .counter) (conflict g) (s .candidates))
     where
-      go : (rival s g ≡ 0) ⊎ ((x : Group) × (conflict g x ≡ true) × (s .counter x ≡ rival s g)) → f g + w ≤ a g + (s .counter g + (w - rival s g))
+      go : (rival s g ≡ 0) ⊎ ((x : Group) × (conflict g x ≡ true) × (s .counter x ≡ rival s g))
+          → f g + w ≤ a g + (s .counter g + (w - rival s g))
       go (inl z) = omega (arith, k .ahead g)
       go (inr t) = omega (arith, k .behind g (t .0) (t .1), t .2)
 
@@ -137,11 +146,13 @@ module _ (n w : ℕ) (r : List ℕ) (ok : Valid n r) (f a : Group → ℕ) (s : 
       swapped : conflict x g ≡ true
       swapped = conflict-swap g x c
 
-      go : Side n r g → Side n r x → withRun w (λ y. holds n y r) f g + moved n w r s x ≤ withRun w (λ y. conflicts n y r) a g + moved n w r s g
+      go : Side n r g → Side n r x
+          → withRun w (λ y. holds n y r) f g + moved n w r s x ≤ withRun w (λ y. conflicts n y r) a g + moved n w r s g
       go (pro p q) (pro u v) = absurd (false≢true (sym q ∙ holder-conflicts n r x g swapped u))
       go (pro p q) (contra u v) = rw (p, q) (omega (arith, moved-pro n w r s g p, moved-contra n w r s x u v, gain g, k .behind g x c))
       go (pro p q) (neither u v) = absurd (false≢true (sym v ∙ holder-conflicts n r g x c p))
-      go (contra p q) (pro u v) = rw (p, q) (omega (arith, moved-contra n w r s g p q, moved-pro n w r s x u, under-rival x g swapped, k .behind g x c))
+      go (contra p q) (pro u v) = rw (p, q)
+          (omega (arith, moved-contra n w r s g p q, moved-pro n w r s x u, under-rival x g swapped, k .behind g x c))
       go (contra p q) (contra u v) = rw (p, q) (omega (arith, moved-contra n w r s g p q, moved-contra n w r s x u v, k .behind g x c))
       go (contra p q) (neither u v) = rw (p, q) (omega (arith, moved-contra n w r s g p q, moved-neither n w r s x u v, k .behind g x c))
       go (neither p q) y = rw (p, q) (omega (arith, moved-neither n w r s g p q, moved-falls n w r s x (not-held g x c q), k .behind g x c))
@@ -166,7 +177,8 @@ module _ (n w : ℕ) (r : List ℕ) (ok : Valid n r) (f a : Group → ℕ) (s : 
           omega (arith, moved-pro n w r s x u, was (omega arith), under-rival x g swapped)
       go (contra p q) (contra u v) e = let l = moved-contra n w r s g p q in omega (arith, moved-contra n w r s x u v, was (omega arith))
       go (contra p q) (neither u v) e = let l = moved-contra n w r s g p q in omega (arith, moved-neither n w r s x u v, was (omega arith))
-      go (neither p q) y e = let l = moved-neither n w r s g p q in omega (arith, moved-falls n w r s x (not-held g x c q), was (omega arith))
+      go (neither p q) y e = let l = moved-neither n w r s g p q in
+          omega (arith, moved-falls n w r s x (not-held g x c q), was (omega arith))
 
   listed' : (g : Group) → 0 < moved n w r s g → In g (step n w r s .candidates)
   unfolding step
@@ -199,7 +211,8 @@ keeps-same f a p q s e d k = record {
 
 -- ---- a round: no counter in conflict with the run is below w, as where w is 1
 
-module _ (n w : ℕ) (r : List ℕ) (f a : Group → ℕ) (s : Tally) (k : Keeps f a s) (round : (x : Group) → In x (s .candidates) → conflicts n x r ≡ true → w ≤ s .counter x) where
+module _ (n w : ℕ) (r : List ℕ) (f a : Group → ℕ) (s : Tally) (k : Keeps f a s)
+    (round : (x : Group) → In x (s .candidates) → conflicts n x r ≡ true → w ≤ s .counter x) where
   -- a group of the run gains w where it agrees with all candidates, and otherwise nothing
   pub round-gain : (g : Group) → holds n g r ≡ true → moved n w r s g ≡ s .counter g + cond (crossed g (s .candidates)) 0 w
   round-gain g p = moved-pro n w r s g p ∙ go (decide (crossed g (s .candidates)))
@@ -211,10 +224,12 @@ module _ (n w : ℕ) (r : List ℕ) (f a : Group → ℕ) (s : Tally) (k : Keeps
         round (t .0) (t .1) (holder-conflicts n r g (t .0) (t .2) p),
         largest-most (s .counter) (conflict g) (s .candidates) (t .0) (t .1) (t .2),
       ))
-      go (inr e) = rw e (⊎-elim (λ z. omega arith) (λ t. omega (arith, calm (t .0) (t .1), t .2)) (largest-is (s .counter) (conflict g) (s .candidates)))
+      go (inr e) = rw e (⊎-elim (λ z. omega arith) (λ t. omega (arith, calm (t .0) (t .1), t .2))
+          (largest-is (s .counter) (conflict g) (s .candidates)))
         where
           calm : (x : Group) → conflict g x ≡ true → s .counter x ≤ 0
-          calm x c = ⊎-elim (λ q. absurd (false≢true (sym e ∙ crossed-by g x (s .candidates) (k .listed x (ltb-true 0 (s .counter x) q)) c)))
+          calm x c = ⊎-elim
+              (λ q. absurd (false≢true (sym e ∙ crossed-by g x (s .candidates) (k .listed x (ltb-true 0 (s .counter x) q)) c)))
               (λ q. ltb-false 0 (s .counter x) q) (decide (ltb 0 (s .counter x)))
 
 -- ---- all runs
@@ -223,7 +238,8 @@ pub tallied-keeps : (n : ℕ) (rs : List Run) → Runs n rs → (f a : Group →
     → Keeps (λ g. f g + support n rs g) (λ g. a g + against n rs g) (tallied n rs s)
 unfolding tallied support against weigh
 tallied-keeps n [] ok f a s k = keeps-same f a _ _ s (λ g. omega arith) (λ g. omega arith) k
-tallied-keeps n (run ∷ rs) ok f a s k = keeps-same _ _ _ _ (tallied n rs (step n (worth run) (run .row) s)) (λ g. omega arith) (λ g. omega arith)
+tallied-keeps n (run ∷ rs) ok f a s k = keeps-same _ _ _ _ (tallied n rs (step n (worth run) (run .row) s))
+    (λ g. omega arith) (λ g. omega arith)
     (tallied-keeps n rs (λ q m. ok q (List·Memᴰ·tail m)) _ _ (step n (worth run) (run .row) s)
     (step-keeps n (worth run) (run .row) (ok run (List·Memᴰ·head refl)) f a s k))
 

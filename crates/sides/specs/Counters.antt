@@ -28,8 +28,9 @@ largest c t (g ∷ gs) = max (cond (t g) (c g) 0) (largest c t gs)
 abbrev pub rival : Tally → Group → ℕ
 rival s g = largest (s .counter) (conflict g) (s .candidates)
 
--- A run of weight w is counted. What it holds gains w, less the largest counter in conflict with it: so a candidate gains w, and a
--- group that is none enters with what is left of w. What it conflicts with loses w. Counters that come to 0 are candidates no more.
+-- A run of weight w is counted. What it holds gains w, less the largest counter in conflict with it: so a candidate
+-- gains w, and a group that is none enters with what is left of w. What it conflicts with loses w. Counters that come
+-- to 0 are candidates no more.
 unfoldable pub moved : ℕ → ℕ → List ℕ → Tally → Group → ℕ
 moved n w r s g =
     cond (holds n g r) (s .counter g + (w - rival s g)) (cond (conflicts n g r) (s .counter g - w) (s .counter g))

@@ -1,4 +1,4 @@
--- No run both holds a group and conflicts with it; so of every group that a report shows, more runs are for it than against. Assumes nothing.
+-- No run holds a group and conflicts with it; so more runs are for a group that a report shows than against it. Assumes nothing.
 use Prim.Native.Nat.{ℕ, _+_, _≤_, _<_}
 use mathlib.Core.Path.{_≡_, refl, ap, _∙_}
 use mathlib.Core.Logic.{⊎-elim}

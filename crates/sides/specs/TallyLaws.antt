@@ -24,7 +24,8 @@ tallied-append n (x ∷ xs) ys s = tallied-append n xs ys (step n (worth x) (x .
 pub tally-next : (n : ℕ) (rs : List Run) (i : ℕ) (d : Run) → i < length rs
     → tallyAt n rs (suc i) ≡ step n (worth (getD rs i d)) (getD rs i d .row) (tallyAt n rs i)
 unfolding tallied
-tally-next n rs i d h = ap (λ (xs : List Run). tallied n xs blank) (take-suc rs i d h) ∙ tallied-append n (take i rs) (getD rs i d ∷ []) blank
+tally-next n rs i d h = ap (λ (xs : List Run). tallied n xs blank) (take-suc rs i d h)
+    ∙ tallied-append n (take i rs) (getD rs i d ∷ []) blank
 
 pub tally-keeps : (n : ℕ) (rs : List Run) → Runs n rs → (i : ℕ) → Keeps (support n (take i rs)) (against n (take i rs)) (tallyAt n rs i)
 tally-keeps n rs ok i = final-keeps n (take i rs)
@@ -33,7 +34,8 @@ tally-keeps n rs ok i = final-keeps n (take i rs)
 -- ---- how large a counter can be
 
 moved-most : (n w : ℕ) (r : List ℕ) (s : Tally) (g : Group) → moved n w r s g ≤ s .counter g + w
-moved-most n w r s g = ⊎-elim (λ p. omega (arith, moved-pro n w r s g p)) (λ p. omega (arith, moved-falls n w r s g p)) (decide (holds n g r))
+moved-most n w r s g = ⊎-elim (λ p. omega (arith, moved-pro n w r s g p)) (λ p. omega (arith, moved-falls n w r s g p))
+    (decide (holds n g r))
 
 step-most : (n w : ℕ) (r : List ℕ) (s : Tally) (g : Group) → step n w r s .counter g ≤ s .counter g + w
 unfolding step

@@ -1,1 +1,1 @@
-// Theory alone: runs for and against a group, and the counters that keep the groups which more runs hold than conflict with.
+// Theory alone: runs for and against a group, and the counters that keep the groups which are ahead.

@@ -33,7 +33,8 @@ loop-holds c =
     let st : tie.Start Inv-loop μ-loop = search needs in
     let b : tie.After-bare Inv-loop μ-loop = search needs in (
       omega arith,
-      rw (b .bare .ensures) (candidates-start (now (st .args .words)) (st .args .n) (st .args .k) (st .pre .0) _ (λ v. getD-zeros tableWords v)),
+      rw (b .bare .ensures) (candidates-start (now (st .args .words)) (st .args .n) (st .args .k) (st .pre .0) _
+          (λ v. getD-zeros tableWords v)),
       refl,
       b .bare .kept .1 .0 ∙ st .pre .1,
       st .pre .2,

@@ -41,7 +41,8 @@ returns c =
     let f : tie.After-references = search needs in
     let r : tie.After-run-row = search needs in
     let y : tie.After-copy = search needs in
-    first-enough (now (a .words)) (a .n) (a .k) (st .pre .0) (a .t) (st .pre .1) (st .pre .2) (omega (arith, f .references .ensures)) _ (y .copy .ensures ∙ r .run-row .ensures)
+    first-enough (now (a .words)) (a .n) (a .k) (st .pre .0) (a .t) (st .pre .1) (st .pre .2) (omega (arith, f .references .ensures)) _
+    (y .copy .ensures ∙ r .run-row .ensures)
 
 candidates-requires : tie.Need-candidates-requires
 candidates-requires c κs = search needs

@@ -25,7 +25,8 @@ marks-requires c κs =
     let st : tie.Start = search needs in
     let d : tie.After-nodes = search needs in
     let q = st .pre .3 .standard in
-    (omega (arith, d .nodes .ensures, q .valid .low), omega (arith, d .nodes .ensures, few _ _ (standard-falls _ _ q)), refl, st .pre .2 .1, study-few _ _ _ (st .pre .0))
+    let e = d .nodes .ensures in
+    (omega (arith, e, q .valid .low), omega (arith, e, few _ _ (standard-falls _ _ q)), refl, st .pre .2 .1, study-few _ _ _ (st .pre .0))
 
 -- the places before
 abbrev nodes-of : tie.After-marks → tie.After-nodes

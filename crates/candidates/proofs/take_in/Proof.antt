@@ -11,7 +11,8 @@ use Rattle.candidates.proofs.take_in.Tie as tie
 run-row-requires : tie.Need-run-row-requires
 run-row-requires c κs =
     let st : tie.Start = search needs in
-    (study-most _ _ _ (st .pre .0), omega (arith, st .pre .1, study-few _ _ _ (st .pre .0)), study-room _ _ _ (st .pre .0) (st .args .i) (st .pre .1))
+    let s = st .pre .0 in
+    (study-most _ _ _ s, omega (arith, st .pre .1, study-few _ _ _ s), study-room _ _ _ s (st .args .i) (st .pre .1))
 
 round-requires : tie.Need-round-requires
 round-requires c κs =
@@ -50,8 +51,8 @@ returns c =
     let r : tie.After-run-row = run-of x in
     let st : tie.Start = start-of r in
     let a = st .args in (
-      rw (y .copy .ensures) (take-step (now (a .words)) (a .n) (a .k) (st .pre .0) (a .i) (st .pre .1) _ _ _ (st .pre .2) (r .run-row .ensures) _ _
-          (x .round .ensures .0)),
+      rw (y .copy .ensures) (take-step (now (a .words)) (a .n) (a .k) (st .pre .0) (a .i) (st .pre .1) _ _ _ (st .pre .2)
+          (r .run-row .ensures) _ _ (x .round .ensures .0)),
       x .round .ensures .1,
     )
 

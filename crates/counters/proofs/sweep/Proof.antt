@@ -15,7 +15,8 @@ use Rattle.counters.proofs.sweep.Tie as tie
 
 abbrev Inv-loop : tie.InvT-loop
 Inv-loop n m held agrees counter₀ keep₀ v₀ counter keep v = (v ≤ m) × (length keep ≡ tableWords)
-    × Remade (turnedIn weight held agrees counter₀) counter₀ n m v counter × Flags (λ u. ltb 0 (turnedIn weight held agrees counter₀ u)) n v keep
+    × Remade (turnedIn weight held agrees counter₀) counter₀ n m v counter
+    × Flags (λ u. ltb 0 (turnedIn weight held agrees counter₀ u)) n v keep
 
 abbrev μ-loop : tie.MeasureT-loop
 μ-loop n m held agrees counter₀ keep₀ v₀ counter keep v = m - v
@@ -71,11 +72,13 @@ loop-again c =
     let f : ℕ → ℕ = turnedIn weight held agrees old in
     let v : ℕ = l .loop .v in
     let x : ℕ = k .turned .result in
-    let e : x ≡ f v = k .turned .ensures ∙ ap (turned weight (flagged held v) (flagged agrees v)) (l .loop .inv .2 .rest .is v (omega arith) (omega arith)) in (
+    let e : x ≡ f v = k .turned .ensures ∙ ap (turned weight (flagged held v) (flagged agrees v))
+    (l .loop .inv .2 .rest .is v (omega arith) (omega arith)) in (
       omega arith,
       simp length-set (l .loop .inv .1),
       remade-more f old (st .args .n) (st .args .m) v x (l .loop .counter) (omega arith) (st .pre .1) e (l .loop .inv .2),
-      flags-more (λ u. ltb 0 (f u)) (st .args .n) v (ltb 0 x) (l .loop .keep) (l .loop .inv .3) (omega (arith, l .loop .inv .1, st .pre .1)) (ap (ltb 0) e),
+      flags-more (λ u. ltb 0 (f u)) (st .args .n) v (ltb 0 x) (l .loop .keep) (l .loop .inv .3)
+          (omega (arith, l .loop .inv .1, st .pre .1)) (ap (ltb 0) e),
     )
 
 returns : tie.Need-returns Inv-loop μ-loop

@@ -62,8 +62,8 @@ returns c =
     let long = g .agreed-row .kept .1 .1 .1 .1 .1 .0 ∙ st .pre .3 in
     record {
       row = o .row;
-      beside = support-row (now (a .words)) (a .n) (a .k) (st .pre .0) _ _ (rw (← o .row) at (agreed-standard st)) (o .holders) _ _ (d .nodes .ensures)
-          (x .write-supports .kept .1 .1 .1 .1 .0 ∙ long) (rw long at (x .write-supports .ensures));
+      beside = support-row (now (a .words)) (a .n) (a .k) (st .pre .0) _ _ (rw (← o .row) at (agreed-standard st)) (o .holders) _ _
+          (d .nodes .ensures) (x .write-supports .kept .1 .1 .1 .1 .0 ∙ long) (rw long at (x .write-supports .ensures));
     }
 
 pub both-rows-spec : {M : Type 1} → statement M

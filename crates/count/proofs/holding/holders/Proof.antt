@@ -66,7 +66,8 @@ loop-again c =
     let j : ℕ = l .loop .j in
     let h : j < a .k = omega arith in
     let d : Run = runAt (a .n) (now (a .words)) j in
-    counting-step (holds (a .n)) (a .n) (runs (now (a .words))) (now (a .reference)) j d _ (l .loop .holders) _ (rw (study-length _ _ _ (st .pre .0)) h)
+    counting-step (holds (a .n)) (a .n) (runs (now (a .words))) (now (a .reference)) j d _ (l .loop .holders) _
+    (rw (study-length _ _ _ (st .pre .0)) h)
     (ap (λ (run : Run). run .row) (study-run _ _ _ (st .pre .0) j d h) ∙ sym (r .run-row .ensures)) (l .loop .inv) (c .count-run .ensures .1)
     (c .count-run .ensures .0)
 
