@@ -153,11 +153,21 @@ static void write_shown(const struct reference *r, int n, int k, const u16 *show
     write_supports(&a, n, k, count, support);
 }
 
+// A row that has every group which can be shown at p: the first run, where none can be that it misses; else the candidates.
+static void find_enough(struct candidates *c, const u16 *words, int n, int k, int p) {
+    start_candidates(c, n);
+    if (k - p * k / 100 > 1) {
+        for (int j = 0; j < k; j++) take_in(c, run(words, n, j), n);
+        return;
+    }
+    memcpy(c->row, run(words, n, 0), 2 * n * sizeof *c->row);
+    read_reference(c->row, n, &c->read);
+}
+
 static void plain_report(const u16 *words, int n, int k, int p, u16 *agreed, u16 *support) {
     struct candidates c;
     u16 count[NODES], shown[NODES];
-    start_candidates(&c, n);
-    for (int j = 0; j < k; j++) take_in(&c, run(words, n, j), n);
+    find_enough(&c, words, n, k, p);
     holders(words, n, k, &c.read, count);
     for (int v = n; v < c.row[0]; v++) shown[v] = is_shown(count[v], k, p);
     write_shown(&c.read, n, k, shown, count, agreed, support);
