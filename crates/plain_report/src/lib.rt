@@ -1,17 +1,13 @@
 // The report by the plain count. It promises what `arb::report` does; the bench times the two against each other.
 ghost use mathlib.Core.Path.{_≡_};
-ghost use Prim.Native.Nat.{_<_};
 ghost use lib.ListN.{length};
-ghost use Rattle.trees.specs.Checks.{rowWords};
+ghost use Rattle.trees.specs.Checks.{accepted, rowWords};
 ghost use Rattle.trees.specs.Valid.{Standard};
 ghost use Rattle.trees.specs.Reporting.{supportsOf};
-ghost use Rattle.trees.specs.Thresholds.{InRange};
 ghost use Rattle.runs.specs.Words.{runs};
-ghost use Rattle.runs.specs.Formed.{Formed};
 ghost use Rattle.runs.specs.Reports.{reported};
 ghost use Rattle.judge.specs.Verdicts.{verdict};
 ghost use Rattle.count.specs.Studies.{Study};
-ghost use Rattle.report.specs.Supports.{BothRows};
 ghost use Rattle.arb.specs.Packing.{packed};
 use arb::pack;
 use count::agreed_row;
@@ -20,12 +16,11 @@ use judge::Answer;
 use judge::nodes;
 use passes::TABLE;
 use passes::Table;
-use report::report_given;
+use report::report_checks;
 use report::threshold;
 use report::write_supports;
 use slots::in_force;
 use slots::samples;
-use study::study_given;
 
 // Writes the support row beside a row.
 fn support_row(n: usize, words: &[u16], k: usize, row: &[u16], out: &mut [u16])
@@ -37,32 +32,16 @@ fn support_row(n: usize, words: &[u16], k: usize, row: &[u16], out: &mut [u16])
     write_supports(n, nodes(row), k, &held, out);
 }
 
-// Writes the agreed row at threshold t by the plain count, and the support row beside it by one count more.
-fn plain_rows(n: usize, words: &[u16], k: usize, t: usize, agreed: &mut [u16], support: &mut [u16])
-    requires { ⌜ Study (now words) n k × (0 < k) × (length (now agreed) ≡ rowWords n)
-        × (length (now support) ≡ rowWords n) × InRange t ⌝ }
-    ensures { λ _. ⌜ BothRows n (runs (now (words .entry))) t (now (agreed .exit)) (now (support .exit)) ⌝ }
-{
-    agreed_row(n, words, k, t, agreed, support);
-    support_row(n, words, k, agreed, support);
-}
-
-// The report of a study that is known to be well formed.
-fn plain_formed(words: &[u16], p: usize, agreed: &mut [u16], support: &mut [u16]) -> Answer
-    requires { ⌜ Formed (now words) ⌝ }
-    ensures answer { λ r. ⌜ verdict r ≡ reported (now (words .entry)) p (now (agreed .entry)) (now (support .entry)) .verdict ⌝ }
+// Writes both rows of a report that its checks accept: the agreed row by the plain count, the support row by one count more.
+fn plain_rows(words: &[u16], p: usize, agreed: &mut [u16], support: &mut [u16])
+    requires { ⌜ reported (now words) p (now agreed) (now support) .verdict ≡ accepted ⌝ }
     ensures agreed { λ _. ⌜ now (agreed .exit) ≡ reported (now (words .entry)) p (now (agreed .entry)) (now (support .entry)) .agreedRow ⌝ }
     ensures support { λ _. ⌜ now (support .exit) ≡ reported (now (words .entry)) p (now (agreed .entry)) (now (support .entry)) .supportRow ⌝ }
 {
     let n = samples(words);
     let k = in_force(words);
-    let t = threshold(p);
-    let a = report_given(n, t, k, agreed, support);
-    let Answer::Accepted = a else {
-        return a;
-    };
-    plain_rows(n, words, k, t, agreed, support);
-    Answer::Accepted
+    agreed_row(n, words, k, threshold(p), agreed, support);
+    support_row(n, words, k, agreed, support);
 }
 
 // The report at p: a refusal that leaves both buffers as they were, or the agreed row and the support row.
@@ -71,11 +50,12 @@ pub fn report_plain(words: &[u16], p: usize, agreed: &mut [u16], support: &mut [
     ensures agreed { λ _. ⌜ now (agreed .exit) ≡ reported (now (words .entry)) p (now (agreed .entry)) (now (support .entry)) .agreedRow ⌝ }
     ensures support { λ _. ⌜ now (support .exit) ≡ reported (now (words .entry)) p (now (agreed .entry)) (now (support .entry)) .supportRow ⌝ }
 {
-    let a = study_given(words);
+    let a = report_checks(words, p, agreed, support);
     let Answer::Accepted = a else {
         return a;
     };
-    plain_formed(words, p, agreed, support)
+    plain_rows(words, p, agreed, support);
+    Answer::Accepted
 }
 
 // The same for C.

@@ -3,18 +3,16 @@ mod thresholds;
 
 pub use thresholds::threshold;
 ghost use mathlib.Core.Path.{_≡_};
-ghost use Prim.Native.Nat.{_<_, _≤_};
+ghost use Prim.Native.Nat.{_≤_};
 ghost use lib.Dec.{eqb};
 ghost use lib.ListN.{length};
-ghost use Rattle.trees.specs.Checks.{accepted, _⊳_, asked, line, mostSamples, rowWords};
-ghost use Rattle.trees.specs.Thresholds.{InRange};
+ghost use Rattle.trees.specs.Checks.{accepted, asked, line};
 ghost use Rattle.trees.specs.Tables.{Tabled, tableWords};
-ghost use Rattle.runs.specs.Words.{runs, mostRuns};
+ghost use Rattle.runs.specs.Words.{mostRuns};
 ghost use Rattle.runs.specs.Formed.{Formed};
 ghost use Rattle.runs.specs.Reports.{reported};
 ghost use Rattle.judge.specs.Verdicts.{verdict};
-ghost use Rattle.count.specs.Studies.{Study};
-ghost use Rattle.report.specs.Supports.{givenChecks, supportWord, BothRows};
+ghost use Rattle.report.specs.Supports.{supportWord};
 use candidates::agreed_row;
 use judge::Answer;
 use judge::Refusal;
@@ -35,12 +33,14 @@ fn runs_given(k: usize) -> Answer
     line(Refusal::EMPTY, k == 0)
 }
 
-// Checks 3, 16 and 14, over n samples at threshold t with k runs in force (RULES 7.8).
-pub fn report_given(n: usize, t: usize, k: usize, agreed: &[u16], support: &[u16]) -> Answer
-    requires { ⌜ n ≤ mostSamples ⌝ }
-    ensures { λ r. ⌜ verdict r ≡ givenChecks n t k (now (agreed .entry)) (now (support .entry)) ⊳ accepted ⌝ }
+// The checks of a report that are left where the study is known to be well formed (RULES 7.8).
+fn formed_checks(words: &[u16], p: usize, agreed: &[u16], support: &[u16]) -> Answer
+    requires { ⌜ Formed (now words) ⌝ }
+    ensures { λ r. ⌜ verdict r ≡ reported (now (words .entry)) p (now (agreed .entry)) (now (support .entry)) .verdict ⌝ }
 {
-    let a = words_both(n, agreed, support);
+    let t = threshold(p);
+    let k = in_force(words);
+    let a = words_both(samples(words), agreed, support);
     let Answer::Accepted = a else {
         return a;
     };
@@ -49,6 +49,17 @@ pub fn report_given(n: usize, t: usize, k: usize, agreed: &[u16], support: &[u16
         return b;
     };
     runs_given(k)
+}
+
+// All checks of a report (RULES 7.8).
+pub fn report_checks(words: &[u16], p: usize, agreed: &[u16], support: &[u16]) -> Answer
+    ensures { λ r. ⌜ verdict r ≡ reported (now (words .entry)) p (now (agreed .entry)) (now (support .entry)) .verdict ⌝ }
+{
+    let a = study_given(words);
+    let Answer::Accepted = a else {
+        return a;
+    };
+    formed_checks(words, p, agreed, support)
 }
 
 // Word w of the support row of a row of m nodes (RULES 5.5), by the holders of its inner groups: each run holds the single samples.
@@ -77,14 +88,16 @@ pub fn write_supports(n: usize, m: usize, k: usize, holders: &Table, out: &mut [
     }
 }
 
-// Writes the agreed row at threshold t, and the support row beside it.
-fn both_rows(n: usize, words: &[u16], k: usize, t: usize, agreed: &mut [u16], support: &mut [u16])
-    requires { ⌜ Study (now words) n k × (0 < k) × (length (now agreed) ≡ rowWords n)
-        × (length (now support) ≡ rowWords n) × InRange t ⌝ }
-    ensures { λ _. ⌜ BothRows n (runs (now (words .entry))) t (now (agreed .exit)) (now (support .exit)) ⌝ }
+// Writes the agreed row, and the support row beside it, of a report that its checks accept.
+fn both_rows(words: &[u16], p: usize, agreed: &mut [u16], support: &mut [u16])
+    requires { ⌜ reported (now words) p (now agreed) (now support) .verdict ≡ accepted ⌝ }
+    ensures agreed { λ _. ⌜ now (agreed .exit) ≡ reported (now (words .entry)) p (now (agreed .entry)) (now (support .entry)) .agreedRow ⌝ }
+    ensures support { λ _. ⌜ now (support .exit) ≡ reported (now (words .entry)) p (now (agreed .entry)) (now (support .entry)) .supportRow ⌝ }
 {
+    let n = samples(words);
+    let k = in_force(words);
     let mut held: Table = [0; TABLE];
-    agreed_row(n, words, k, t, agreed, support, &mut held);
+    agreed_row(n, words, k, threshold(p), agreed, support, &mut held);
     write_supports(n, nodes(agreed), k, &held, support);
 }
 
@@ -95,14 +108,11 @@ pub fn report_formed(words: &[u16], p: usize, agreed: &mut [u16], support: &mut 
     ensures agreed { λ _. ⌜ now (agreed .exit) ≡ reported (now (words .entry)) p (now (agreed .entry)) (now (support .entry)) .agreedRow ⌝ }
     ensures support { λ _. ⌜ now (support .exit) ≡ reported (now (words .entry)) p (now (agreed .entry)) (now (support .entry)) .supportRow ⌝ }
 {
-    let n = samples(words);
-    let k = in_force(words);
-    let t = threshold(p);
-    let a = report_given(n, t, k, agreed, support);
+    let a = formed_checks(words, p, agreed, support);
     let Answer::Accepted = a else {
         return a;
     };
-    both_rows(n, words, k, t, agreed, support);
+    both_rows(words, p, agreed, support);
     Answer::Accepted
 }
 
@@ -112,9 +122,10 @@ pub fn report(words: &[u16], p: usize, agreed: &mut [u16], support: &mut [u16]) 
     ensures agreed { λ _. ⌜ now (agreed .exit) ≡ reported (now (words .entry)) p (now (agreed .entry)) (now (support .entry)) .agreedRow ⌝ }
     ensures support { λ _. ⌜ now (support .exit) ≡ reported (now (words .entry)) p (now (agreed .entry)) (now (support .entry)) .supportRow ⌝ }
 {
-    let a = study_given(words);
+    let a = report_checks(words, p, agreed, support);
     let Answer::Accepted = a else {
         return a;
     };
-    report_formed(words, p, agreed, support)
+    both_rows(words, p, agreed, support);
+    Answer::Accepted
 }
