@@ -1,4 +1,5 @@
 // The public calls, each with its promise; `c` has them for C.
+#![tactic(auto)]
 mod c;
 
 ghost use Rattle.std.specs.Prelude.{◌≡◌};

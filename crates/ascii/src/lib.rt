@@ -1,1 +1,2 @@
 // Theory alone: texts in ASCII, and numbers in decimal, are in specs/.
+#![tactic(auto)]

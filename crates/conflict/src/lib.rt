@@ -1,4 +1,5 @@
 // Which inner nodes of a reference row another row agrees with, and whose groups it holds.
+#![tactic(auto)]
 mod paths;
 mod reach;
 

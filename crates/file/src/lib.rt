@@ -1,4 +1,6 @@
 // The file that the listing program reads (RULES 9.1): whether it is bad (RULES 9.3), its n and k, and its slots.
+#![tactic(auto)]
+
 ghost use Rattle.std.specs.Prelude.{◌≡◌, ◌+◌, ◌*◌, ◌^◌, ◌<◌, ◌≤◌, eqb, length};
 ghost use Rattle.trees.specs.Checks.{row_words};
 ghost use Rattle.file.specs.Files.{word_at, file_samples, file_runs, head_bytes, file_bytes, begins, bad_file, file_of, slot_identifier, slot_row};

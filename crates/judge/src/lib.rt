@@ -1,4 +1,6 @@
 // Judging a row: checks 1, 3 and 5 to 10 (RULES 7.5), each a function, and their order; with no table (RULES 13.5).
+#![tactic(auto)]
+
 ghost use Rattle.std.specs.Prelude.{◌≡◌, ℕ, ◌+◌, ◌<◌, ◌≤◌, length};
 ghost use Rattle.trees.specs.Lists.{range, count};
 ghost use Rattle.trees.specs.Rows.{nodes, parent, child_of, ends};

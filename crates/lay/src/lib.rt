@@ -1,4 +1,5 @@
 // The nodes of a Newick text, laid into a row as the text is read (RULES 14).
+#![tactic(auto)]
 mod keep;
 mod subtrees;
 mod tables;

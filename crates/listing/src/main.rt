@@ -1,5 +1,6 @@
 // Lists the agreed tree of a file (RULES 9): standard input holds the file, and standard output gets the lines. `told` knows what
 // a file comes to, `lines` what each line is; here bytes are only moved.
+#![tactic(auto)]
 mod lines;
 mod told;
 

@@ -1,4 +1,6 @@
 // Linear passes over rows whose parents have smaller numbers: sizes, least keys and intervals of places; whether a row is standard.
+#![tactic(auto)]
+
 mod pass;
 mod standard;
 mod turns;

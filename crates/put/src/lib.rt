@@ -1,4 +1,6 @@
 // Bytes, texts and numbers put into a buffer at a place: each answers the place after what it put.
+#![tactic(auto)]
+
 ghost use Rattle.std.specs.Prelude.{◌≡◌, [], ◌∷◌, ◌+◌, ◌<◌, ◌≤◌, length};
 ghost use Rattle.ascii.specs.Decimal.{digit, decimal};
 ghost use Rattle.put.specs.Writing.{Put};

@@ -6,6 +6,7 @@
 // It stops at the end of input, at a request that is cut off, at a buffer of more than 32,768 words,
 // at an op that it does not know and at a text that has a word that is no byte. `calls` knows the ops,
 // `texts` the bytes of texts, `words` the bytes of words; here and in `moves` bytes are only moved.
+#![tactic(auto)]
 mod calls;
 mod moves;
 mod texts;

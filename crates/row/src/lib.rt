@@ -1,4 +1,5 @@
 // Renumbering a row.
+#![tactic(auto)]
 mod numbers;
 mod renumbering;
 mod standard;

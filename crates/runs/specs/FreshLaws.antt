@@ -27,6 +27,7 @@ use Rattle.runs.specs.HistoryLaws.{study_kept, study-words, study_find, Proper, 
 -- ---- lists of runs that have different identifiers
 
 pub distinct_find : (rs : List Run) (r : Run) → Distinct rs → Memᴰ r rs → find r.identifier rs ≡ some r
+distinct_find [] r d x'' = elim x'' [ ]
 distinct_find (x ∷ rs) r d (Memᴰ.head q) = find_here r.identifier x rs (ap (λ (y : Run). y.identifier) q) ∙ ap (λ (y : Run). some y) (sym q)
 distinct_find (x ∷ rs) r d (Memᴰ.tail m) =
     find_past r.identifier x rs (λ e. absent_member x.identifier rs r d.0 m (sym e)) ∙ distinct_find rs r d.1 m

@@ -16,6 +16,7 @@ use Rattle.runs.specs.Formed.{Rising}
 module _ {A : Type 0} where
   pub every_to : (t : A → Bool) (xs : List A) → every t xs ≡ true → (x : A) → Memᴰ x xs → t x ≡ true
   unfolding every
+  every_to t [] e x x4 = elim x4 [ ]
   every_to t (y ∷ xs) e x (Memᴰ.head q) = ap t q ∙ and_l (t y) (every t xs) e
   every_to t (y ∷ xs) e x (Memᴰ.tail m) = every_to t xs (and_r (t y) (every t xs) e) x m
 
@@ -61,6 +62,7 @@ pub absent_tail : (i : ℕ) (r : Run) (rs : List Run) → Absent i (r ∷ rs) �
 absent_tail i r rs a = sym (find_past i r rs (absent_head i r rs a)) ∙ a
 
 pub absent_member : (i : ℕ) (rs : List Run) (r : Run) → Absent i rs → Memᴰ r rs → i ≡ r.identifier → ⊥
+absent_member i [] r a x3 e = elim x3 [ ]
 absent_member i (x ∷ rs) r a (Memᴰ.head q) e = absent_head i x rs a (e ∙ ap (λ (y : Run). y.identifier) q)
 absent_member i (x ∷ rs) r a (Memᴰ.tail m) e = absent_member i rs r (absent_tail i x rs a) m e
 
@@ -192,6 +194,7 @@ length_insert r (x ∷ xs) = ⊎_elim (λ e. rw e) (λ e. rw e (ap suc (length_i
 
 pub insert_member : (r : Run) (xs : List Run) (y : Run) → Memᴰ y (insert_run r xs) → (y ≡ r) ⊎ Memᴰ y xs
 unfolding insert_run
+insert_member r [] y (mathlib.Core.List.Memᴰ.tail x5) = elim x5 [ ]
 insert_member r [] y (Memᴰ.head q) = inl q
 insert_member r (x ∷ xs) y m = go (ltb r.identifier x.identifier) m (insert_member r xs y)
   where
@@ -236,6 +239,7 @@ length_delete i (x ∷ xs) r e =
 
 pub delete_member : (i : ℕ) (xs : List Run) (y : Run) → Memᴰ y (delete_run i xs) → Memᴰ y xs
 unfolding delete_run
+delete_member i [] y m = elim m [ ]
 delete_member i (x ∷ xs) y m = go (eqb i x.identifier) m (delete_member i xs y)
   where
     go : (t : Bool) → Memᴰ y (cond t xs (x ∷ delete_run i xs)) → (Memᴰ y (delete_run i xs) → Memᴰ y xs) → Memᴰ y (x ∷ xs)

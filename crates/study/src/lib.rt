@@ -1,4 +1,5 @@
 // A study in lent words: when it is well formed, and the calls that open, add and withdraw.
+#![tactic(auto)]
 mod calls;
 mod checks;
 mod form;

@@ -97,6 +97,7 @@ chain_given (c ∷ cs) v k p x e = go c.fault refl e (λ q. chain_given cs v k p
 
 pub given_chain : (cs : List Check) (v : Verdict) (k p : ℕ) → Given k p cs → cs ⊳ v ≡ refused k p
 unfolding ◌⊳◌
+given_chain [] v k p x' = elim x' [ ]
 given_chain (c ∷ cs) v k p (here a b) = rw (b, a)
 given_chain (c ∷ cs) v k p (later a g) = rw a (given_chain cs v k p g)
 
@@ -113,6 +114,7 @@ pub record Exactly (k p : ℕ) (cs : List Check) : Type 0 where
   pub earlier : Passed before
 
 given_exactly : (cs : List Check) (k p : ℕ) → Given k p cs → Exactly k p cs
+given_exactly [] k p x' = elim x' [ ]
 given_exactly (c ∷ cs) k p (here a b) = record { before = []; check = c; rest = cs; stands = refl; number = a; applies = b; earlier = tt }
 given_exactly (c ∷ cs) k p (later a g) =
     let w = given_exactly cs k p g in
@@ -162,6 +164,7 @@ lacks k (c ∷ cs) = not (eqb c.number k) && lacks k cs
 -- there is no refusal with a number that no check has
 pub given_lacks : (cs : List Check) (k p : ℕ) → lacks k cs ≡ true → Given k p cs → ⊥
 unfolding lacks
+given_lacks [] k p e x'' = elim x'' [ ]
 given_lacks (c ∷ cs) k p e (here a f) = eqb-false c.number k (not-true _ (and_l (not (eqb c.number k)) (lacks k cs) e)) a
 given_lacks (c ∷ cs) k p e (later f g) = given_lacks cs k p (and_r (not (eqb c.number k)) (lacks k cs) e) g
 

@@ -3,7 +3,7 @@
 use Rattle.std.specs.Prelude.{ℕ, ◌+◌, ◌-◌, ◌≤◌, ◌<◌, ◌≡◌, refl, ◌↔◌, List, Bool, true, false, ◌&&◌, ◌||◌, eqb, length}
 use Rattle.std.proofs.Math.Path.{sym, ap}
 use Rattle.std.proofs.Common.{◌∙◌, arith, ne_eqb}
-use Rattle.std.proofs.Math.Bool.{not, and-true, and_false, and_comm}
+use Rattle.std.proofs.Math.Bool.{not, and-true, and-false, and_comm}
 use Rattle.std.proofs.lemmas.Bool.{false≢true, eqb-false, not-true, not-false}
 use Rattle.trees.specs.Lists.{tabulate, range, filter, count}
 use Rattle.trees.specs.Groups.{Group, size, trivial, member}
@@ -70,7 +70,7 @@ alone_by gs hs ks s t = omega (
 
     turned : (a b c : Bool) → (a && b) && c ≡ ((c && b) && a)
     turned true b c = and_comm b c ∙ sym (and-true (c && b))
-    turned false b c = sym (and_false (c && b))
+    turned false b c = sym (and-false (c && b))
 
 -- THE DISTANCE IS ONE (RULES 8.5): it is symmetric,
 pub distance_symmetric : (gs hs : List Group) → distance gs hs ≡ distance hs gs
@@ -127,7 +127,7 @@ counted_set n r q f xs s e = count_set (λ g. f (member g (nontrivial n q))) (no
   where
     go : (t a b : Bool) → t && (a && f b) ≡ (f (t && b) && (t && a))
     go true a b = and_comm a (f b)
-    go false a b = sym (and_false (f false))
+    go false a b = sym (and-false (f false))
 
 module _ (n : ℕ) (r q : List ℕ) where
   -- THE COUNTS ARE THOSE OF SETS (RULES 8.1, 8.2): list, each once and in order, the groups that are not trivial and that both rows hold,

@@ -4,7 +4,7 @@ use Rattle.std.specs.Prelude.{◌≡◌, refl, Bool, true, false, ◌&&◌, ◌|
 use Rattle.std.proofs.Common.{sym, ap, ◌∙◌, ⊎_elim, arith, take-suc, leb-true, leb-false, le-leb}
 use mathlib.Core.List.Memᴰ
 use mathlib.Core.List.{List, [], ◌∷◌, ◌++◌, Memᴰ}
-use Rattle.std.proofs.Math.Bool.{or_false, or_assoc, and-or_distrib_left}
+use Rattle.std.proofs.Math.Bool.{or-false, or_assoc, and-or_distrib_left}
 use Rattle.trees.specs.Lists.{filter, tabulate}
 use Rattle.trees.specs.Groups.{Group, whole, single, size, same, member}
 use Rattle.trees.specs.Rows.{nodes, group_at, groups, inner, holds}
@@ -63,7 +63,7 @@ held_append n rs qs x = true_eq _ _ to from
 
 held_one : (n : ℕ) (run : Run) (x : Group) → member x (held n (run ∷ [])) ≡ member x (groups n run.row)
 unfolding held member
-held_one n run x = member_append x (groups n run.row) [] ∙ or_false (member x (groups n run.row))
+held_one n run x = member_append x (groups n run.row) [] ∙ or-false (member x (groups n run.row))
 
 module _ (rule : Rule) (n : ℕ) (rs : List Run) (ok : (run : Run) → Memᴰ run rs → Standard n run.row) (some : 0 < length rs)
     (sound : Sound rule n rs) where

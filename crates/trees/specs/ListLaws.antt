@@ -93,6 +93,7 @@ tabulate_in (suc m) s x h k = ⊎_elim (λ e. Memᴰ.head (sym e)) (λ l. Memᴰ
 
 pub in_tabulate : (m s x : ℕ) → Memᴰ x (tabulate m (λ u. u) s) → (s ≤ x) × (x < s + m)
 unfolding tabulate
+in_tabulate zero s x x3 = elim x3 [ ]
 in_tabulate (suc m) s x (Memᴰ.head e) = (omega arith, omega arith)
 in_tabulate (suc m) s x (Memᴰ.tail k) = let r = in_tabulate m (suc s) x k in (omega arith, omega arith)
 
@@ -226,6 +227,7 @@ module _ {A : Type 0} (w : A → ℕ) where
 
   pub weigh_one : (t : A → Bool) (xs : List A) (x : A) → Memᴰ x xs → t x ≡ true → w x ≤ weigh w t xs
   unfolding weigh
+  weigh_one t [] x x4 e = elim x4 [ ]
   weigh_one t (y ∷ xs) x (Memᴰ.head q) e = let f : t y ≡ true = ap t (sym q) ∙ e in rw (f, q) (omega arith)
   weigh_one t (y ∷ xs) x (Memᴰ.tail m) e = omega (arith, weigh_one t xs x m e)
 

@@ -49,6 +49,7 @@ at_in (h ∷ gs) g m = go (in_cases g h gs m) (λ r. at_in gs g r)
     go (inr r) f = (suc (f r).0, suc-le-suc (f r).1, (f r).2)
 
 pub mem_in : (g : Group) (gs : List Group) → Memᴰ g gs → In g gs
+mem_in g [] x' = elim x' [ ]
 mem_in g (h ∷ gs) (Memᴰ.head e) = rw e (in_head h gs)
 mem_in g (h ∷ gs) (Memᴰ.tail m) = in_tail g h gs (mem_in g gs m)
 

@@ -40,6 +40,7 @@ module _ (g : ℕ → Group) (f : ℕ → Bool) where
 
   picked_in : (xs : List ℕ) (v : ℕ) → Memᴰ v xs → f v ≡ true → In (g v) (map g (filter f xs))
   unfolding filter
+  picked_in [] v x'' e = elim x'' [ ]
   picked_in (x ∷ xs) v (Memᴰ.head q) e = rw (← q, e) (in_head (g v) (map g (filter f xs)))
   picked_in (x ∷ xs) v (Memᴰ.tail m) e = go (f x) (picked_in xs v m e)
     where

@@ -30,6 +30,10 @@ tabulate_both zero p q u f i s = refl
 tabulate_both (suc n) p q u f i zero = go (p i) (q i) (u i) (f i)
   where
     go : (a b c : Bool) → Split a b c → c ≡ (a || b)
+    go false false true x4 = elim x4 [ ]
+    go false true false x5 = elim x5 [ ]
+    go true false false x5 = elim x5 [ ]
+    go true true c x5 = elim x5 [ ]
     go false false false neither = refl
     go true false true left = refl
     go false true true right = refl

@@ -66,13 +66,13 @@ module _ (n : ℕ) (gs : List Group) (few : n + length gs < root_mark) (nest : N
   met (suc f) j s a b c = rw (ne_eqb s (n + j) (λ e. omega arith), parent_leaf n gs s c)
       (rw (take-length, lt-ltb j (length gs) b) at (climb (length gs) f j s (omega arith) (omega arith)))
 
-  group_at : (j : ℕ) → 0 < n → j < length gs → length (nth gs j) ≡ n → group_at n (row_of n gs) (n + j) ≡ nth gs j
+  group_at_lem : (j : ℕ) → 0 < n → j < length gs → length (nth gs j) ≡ n → group_at n (row_of n gs) (n + j) ≡ nth gs j
   unfolding group_at
-  group_at j z b l = rw nodes_row (tabulate_eq (nth gs j) n _ 0 false l (λ s c. rw zero-add (met (n + length gs) j s (omega arith) b c)))
+  group_at_lem j z b l = rw nodes_row (tabulate_eq (nth gs j) n _ 0 false l (λ s c. rw zero-add (met (n + length gs) j s (omega arith) b c)))
 
   inner_row : 0 < n → ((j : ℕ) → j < length gs → length (nth gs j) ≡ n) → inner n (row_of n gs) ≡ gs
   unfolding inner
-  inner_row z l = rw nodes_row (tabulate_eq gs (n + length gs - n) _ n [] (omega arith) (λ j b. group_at j z (omega arith) (l j (omega arith))))
+  inner_row z l = rw nodes_row (tabulate_eq gs (n + length gs - n) _ n [] (omega arith) (λ j b. group_at_lem j z (omega arith) (l j (omega arith))))
 
 -- ---- a family's row
 

@@ -31,6 +31,7 @@ Holder n g rs = (run : Run) × Memᴰ run rs × (holds n g run.row ≡ true)
 
 pub in_held : (n : ℕ) (rs : List Run) (g : Group) → Holder n g rs → In g (held n rs)
 unfolding held
+in_held n [] g (run, i, m) = elim i [ ]
 in_held n (r ∷ rs) g (run, Memᴰ.head e, m) = member_append g (groups n r.row) (held n rs)
     ∙ or_l _ (member g (held n rs)) (ap (λ (q : Run). holds n g q.row) (sym e) ∙ m)
 in_held n (r ∷ rs) g (run, Memᴰ.tail d, m) = member_append g (groups n r.row) (held n rs)

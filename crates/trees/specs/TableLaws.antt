@@ -113,6 +113,10 @@ over_join op e f k p q u (suc n) s h = go (p s) (q s) (u s) (h s (omega arith) (
     U = over op e k (tabulate n u (suc s)) (suc s)
 
     go : (a b c : Bool) → Split a b c → U ≡ op P Q → cond c (op (k s) U) U ≡ op (cond a (op (k s) P) P) (cond b (op (k s) Q) Q)
+    go false false true x7 i = elim x7 [ ]
+    go false true false x7 i = elim x7 [ ]
+    go true false false x6 i = elim x6 [ ]
+    go true true c x6 i = elim x6 [ ]
     go false false false neither i = i
     go true false true left i = ap (op (k s)) i ∙ f.assoc (k s) P Q
     go false true true right i = ap (op (k s)) i ∙ f.swap (k s) P Q

@@ -1,4 +1,5 @@
 // Writing the Newick text of a row (RULES 14).
+#![tactic(auto)]
 mod calls;
 mod lengths;
 mod texts;

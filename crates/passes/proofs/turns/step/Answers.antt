@@ -1,0 +1,24 @@
+-- `passes::turns::step` meets its contract: a node of a step and its parent are nodes. Assumes nothing.
+use Rattle.trees.specs.FallsLaws.{few}
+use Rattle.trees.specs.PassLaws.{stepped}
+use native.Mathlib.Omega.{arith}
+use mathlib.Core.Path.{refl}
+use Rattle.passes.proofs.turns.step.Goals as goal
+
+pub turn-v-requires : goal.turn-v-requires
+turn-v-requires c = (omega (arith, c.requires.0.low), omega (arith, few _ _ c.requires.0), omega arith)
+
+pub parent-p-requires : goal.parent-p-requires
+parent-p-requires c =
+    omega (
+      arith,
+      (stepped c.args.n c.args.row.now c.requires.0 c.args.i c.turn-v.result _ (omega arith)
+          (rw (← c.requires.1) c.turn-v.ensures) refl).low,
+      c.requires.0.high,
+      c.requires.0.words,
+    )
+
+pub returns : goal.returns
+returns c =
+    stepped c.args.n c.args.row.now c.requires.0 c.args.i c.turn-v.result c.parent-p.result (omega arith)
+    (rw (← c.requires.1) c.turn-v.ensures) c.parent-p.ensures
