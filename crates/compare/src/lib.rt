@@ -18,7 +18,7 @@ use quick::check_row;
 use row::{check_first, renumber_valid};
 
 // Of the groups that are not trivial, how many both rows have, the first alone and the second alone (RULES 8.1, 8.2); or a refusal.
-#[derive(Drop)]
+#[derive(Clone, Copy)]
 pub enum Comparison {
     Counted(usize, usize, usize),
     Refused(usize, usize),

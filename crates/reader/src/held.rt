@@ -8,7 +8,7 @@ use lay::{Kept, Marks, Row};
 use scan::Progress;
 
 // A reader: the text, and how far it has come in it.
-#[derive(Drop)]
+#[derive(Clone, Copy)]
 pub struct Reader<'a> {
     pub text: &'a [u8],
     pub progress: Progress,
