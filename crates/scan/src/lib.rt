@@ -1,6 +1,7 @@
 // What stands at a place of a Newick text: blanks, digits, a sample, what may follow a subtree, how a subtree starts
 // (RULES 14).
 #![tactic(auto)]
+
 mod bytes;
 mod heads;
 mod numbers;
