@@ -13,7 +13,7 @@ pub use numbers::Number;
 pub use tails::closes;
 
 // How far a reading has come: it reached a place, or it stopped at one, where no text of the form goes on.
-#[derive(Drop)]
+#[derive(Clone, Copy)]
 pub enum Progress {
     Reached(usize),
     Stopped(usize),
