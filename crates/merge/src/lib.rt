@@ -1,5 +1,6 @@
 // Merging two standard rows: the row of the groups that are kept of either, in time that grows with the number of nodes.
 #![tactic(auto)]
+
 mod carrying;
 
 ghost use Rattle.std.specs.Prelude.{◌≡◌, true, cond, eqb, ◌<◌, ◌≤◌, max, length};
