@@ -50,7 +50,7 @@ fn rank_or_end(n: usize, m: usize, sizes: &Table, lows: &Table, v: usize) -> usi
 }
 
 // Whether the first row's node takes the next number, whether the second's does, and the smallest sample of their group.
-#[derive(Drop)]
+#[derive(Clone, Copy)]
 struct Choice {
     first: bool,
     second: bool,
