@@ -1,5 +1,6 @@
 // Comparing two rows that are handed in (RULES 8).
 #![tactic(auto)]
+
 ghost use Rattle.std.specs.Prelude.{◌≡◌, not, map, ◌+◌, ◌≤◌, eqb, length, get_or};
 ghost use Rattle.trees.specs.Lists.{range, count};
 ghost use Rattle.trees.specs.Rows.{nodes, group_at, holds};
