@@ -3,7 +3,7 @@ use Prim.Native.Nat.{ℕ}
 use mathlib.Core.Path.{◌∙◌}
 use native.Mathlib.Omega.{arith}
 use lib.ListN.{length-replicate}
-use Rattle.trees.specs.FallsLaws.{few, standard_falls}
+use Rattle.trees.proofs.FallsLaws.{few, standard_falls}
 use Rattle.count.specs.StudyLaws.{study_few}
 use Rattle.report.specs.SupportLaws.{support-row}
 use Rattle.plain_report.proofs.support_row.Goals as goal
