@@ -1,5 +1,5 @@
 -- Two answers of comparing with one verdict are the same answer. Assumes nothing.
-use Rattle.std.specs.Prelude.{◌≡◌, refl}
+use Rattle.std.specs.Prelude.{◌≡◌}
 use Rattle.compare.specs.declared.Comparison.{Comparison}
 use Rattle.compare.specs.declared.Comparison.TheVariants.{Counted, Refused}
 use Rattle.compare.specs.Comparisons.{comparison}

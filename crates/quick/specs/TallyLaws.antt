@@ -4,7 +4,7 @@ use Rattle.std.proofs.Common.{sym, ◌∙◌, ⊎_elim, arith, length-set, get_o
 use Rattle.std.proofs.Math.Nat.{sub-zero}
 use Rattle.std.proofs.lemmas.Bool.{eqb-false}
 use Rattle.trees.proofs.ListLaws.{length_zeros, get_or_zeros, count_shift}
-use Rattle.trees.specs.Lists.{zeros, count}
+use Rattle.trees.specs.Lists.{zeros}
 use Rattle.trees.specs.Rows.{nodes, parent}
 use Rattle.trees.specs.Checks.{children}
 use Rattle.trees.specs.Tables.{Tabled, table_words}

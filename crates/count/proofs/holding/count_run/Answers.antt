@@ -11,8 +11,7 @@ tally-requires c =
 
 pub returns : goal.returns
 returns c =
-    let a = c.args in
-    (
+    let a = c.args in (
       tallied a.n a.reference.now a.row.now _ a.holders.now _ c.requires.0 c.requires.2 c.mates.ensures.0
           (rw c.nodes.ensures at c.tally.ensures.0),
       c.tally.ensures.1,

@@ -16,28 +16,26 @@ references-last-requires c =
     (omega (arith, c.requires.4), study_few _ _ _ c.requires.0)
 
 pub loop-tried-init : goal.loop-tried-init
-loop-tried-init c =
-    (
-      omega arith,
-      c.references-last.ensures,
-      c.bare.ensures ∙ accepted_start _ _ _ _ c.requires.0 c.requires.1 c.requires.4,
-      c.bare.auto.out ∙ c.requires.2,
-      c.requires.3,
-    )
+loop-tried-init c = (
+  omega arith,
+  c.references-last.ensures,
+  c.bare.ensures ∙ accepted_start _ _ _ _ c.requires.0 c.requires.1 c.requires.4,
+  c.bare.auto.out ∙ c.requires.2,
+  c.requires.3,
+)
 
 pub take_in-requires : goal.take_in-requires
 take_in-requires c =
     (c.requires.0, omega (arith, c.loop-tried.invariant.1, references_most c.args.t c.args.k c.requires.1), c.loop-tried.invariant.2, c.loop-tried.invariant.4, c.requires.4)
 
 pub loop-tried-preserved : goal.loop-tried-preserved
-loop-tried-preserved c =
-    (
-      omega arith,
-      c.loop-tried.invariant.1,
-      c.take_in.ensures,
-      c.take_in.auto.out ∙ c.loop-tried.invariant.3,
-      c.take_in.auto.spare ∙ c.loop-tried.invariant.4,
-    )
+loop-tried-preserved c = (
+  omega arith,
+  c.loop-tried.invariant.1,
+  c.take_in.ensures,
+  c.take_in.auto.out ∙ c.loop-tried.invariant.3,
+  c.take_in.auto.spare ∙ c.loop-tried.invariant.4,
+)
 
 pub returns : goal.returns
 returns c =

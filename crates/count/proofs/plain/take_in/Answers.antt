@@ -29,8 +29,7 @@ nodes-requires c =
 pub marks-requires : goal.marks-requires
 marks-requires c =
     let a = c.args in
-    let q : Standard a.n c.run_row-row.result.now = rw c.run_row-row.ensures (study_standard _ _ _ c.requires.0 a.i c.requires.1) in
-    (
+    let q : Standard a.n c.run_row-row.result.now = rw c.run_row-row.ensures (study_standard _ _ _ c.requires.0 a.i c.requires.1) in (
       omega (arith, c.nodes.ensures, q.valid.low),
       omega (arith, c.nodes.ensures, few _ _ (standard_falls _ _ q)),
       length-replicate {A = Bool} 1024 false,

@@ -12,14 +12,13 @@ loop-v-init c =
     (omega arith, c.requires.0, c.requires.2, flags_none _ c.args.n _)
 
 pub loop-v-preserved : goal.loop-v-preserved
-loop-v-preserved c =
-    (
-      omega arith,
-      omega arith,
-      simp length-set c.loop-v.invariant.2,
-      flags_more (λ v. is_shown c.args.t c.args.k (entry c.args.holders.now v)) c.args.n c.loop-v.v _
-          c.loop-v.keep c.loop-v.invariant.3 (omega (arith, c.loop-v.invariant.2, c.requires.1)) c.is_shown.ensures,
-    )
+loop-v-preserved c = (
+  omega arith,
+  omega arith,
+  simp length-set c.loop-v.invariant.2,
+  flags_more (λ v. is_shown c.args.t c.args.k (entry c.args.holders.now v)) c.args.n c.loop-v.v _
+      c.loop-v.keep c.loop-v.invariant.3 (omega (arith, c.loop-v.invariant.2, c.requires.1)) c.is_shown.ensures,
+)
 
 pub returns : goal.returns
 returns c =

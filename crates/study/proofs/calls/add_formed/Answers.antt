@@ -22,8 +22,7 @@ returns-in_default c =
 pub add_valid-requires : goal.add_valid-requires
 add_valid-requires c =
     let a = c.args in
-    let w = a.words.now in
-    (
+    let w = a.words.now in (
       c.requires,
       run_valid (samples w) a.id a.row.now c.run_given-a.result c.requires.least c.requires.most
           (rw c.samples.ensures at c.run_given-a.ensures) c.in-Accepted.is,

@@ -1,5 +1,4 @@
 -- `study::checks::study_given` answers check 2. Assumes nothing.
-use borrow.Author.Rules.{rules}
 use Rattle.study.proofs.checks.study_given.Goals as goal
 
 pub returns : goal.returns
