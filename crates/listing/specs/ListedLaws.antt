@@ -27,7 +27,7 @@ use Rattle.runs.proofs.CallLaws.{opened_kept, opened_none}
 use Rattle.runs.specs.Formed.{Kept}
 use Rattle.runs.proofs.ReportLaws.{threshold_exactly, reported_rows}
 use Rattle.file.specs.Files.{file_samples, file_runs, bad_file, slot_identifier, slot_row}
-use Rattle.file.specs.FileLaws.{Sound, not_bad, sound_good, bad-file}
+use Rattle.file.proofs.FileLaws.{Sound, not_bad, sound_good, bad-file}
 use Rattle.listing.specs.Listing.{Listed, refusal, tree, study_words, unless, first_refused, slot_call, reports, adds_and_reports}
 use Rattle.listing.specs.Listing.{listed_file, listed}
 use Rattle.listing.specs.Slots.{slot_checks, slot_runs}

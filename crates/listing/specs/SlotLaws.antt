@@ -30,7 +30,7 @@ use Rattle.runs.specs.Formed.{Kept}
 use Rattle.runs.proofs.AddLaws.{added_accepts, added_runs, added_find, added_formed}
 use Rattle.runs.proofs.HistoryLaws.{study_kept}
 use Rattle.file.specs.Files.{file_samples, file_runs, slot_identifier, slot_row}
-use Rattle.file.specs.FileLaws.{Sound, length_slot}
+use Rattle.file.proofs.FileLaws.{Sound, length_slot}
 use Rattle.listing.specs.Listing.{study_words, slot_call}
 use Rattle.listing.specs.Slots.{named, slot_checks, slot_runs}
 use Rattle.listing.specs.ListingLaws.{slot_word}

@@ -17,8 +17,8 @@ use Rattle.runs.specs.Runs.{every, insert_run}
 use Rattle.runs.specs.Reports.{rule_of}
 use Rattle.ascii.specs.Ascii.{ascii}
 use Rattle.file.specs.Files.{bad_file, begins, word_at, file_bytes, file_samples, file_runs, slot_identifier, slot_row}
-use Rattle.file.specs.FileLaws.{Sound, good_file}
-use Rattle.file.specs.Specimen.{bytes_of, input, specimen_file}
+use Rattle.file.proofs.FileLaws.{Sound, good_file}
+use Rattle.file.proofs.Specimen.{bytes_of, input, specimen_file}
 use Rattle.ascii.specs.Decimal.{digits, decimal}
 use Rattle.text.specs.Lines.{spaced, line_of, refusal_line}
 use Rattle.text.specs.Specimen.{specimen_listing}

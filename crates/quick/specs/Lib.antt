@@ -1,5 +1,3 @@
 pub mod Layout
 pub mod Marking
-pub mod MarkingLaws
 pub mod Tallies
-pub mod TallyLaws

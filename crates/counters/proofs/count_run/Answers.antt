@@ -1,7 +1,7 @@
 -- `counters::count_run` turns the counters by what the run holds and what it agrees with. Assumes nothing.
 use Rattle.trees.proofs.FallsLaws.{standard_falls, few}
 use Rattle.counters.specs.Rounds.{weight}
-use Rattle.counters.specs.RoundLaws.{turned_run}
+use Rattle.counters.proofs.RoundLaws.{turned_run}
 use native.Mathlib.Omega.{arith}
 use Rattle.counters.proofs.count_run.Goals as goal
 

@@ -1,5 +1,5 @@
 -- `counters::turn` counts the run, sees which of its groups enter, and renews the candidates: one round. Assumes nothing.
-use Rattle.counters.specs.RoundLaws.{ready_mergeable, rounded}
+use Rattle.counters.proofs.RoundLaws.{ready_mergeable, rounded}
 use borrow.Author.Rules.{rules}
 use Rattle.counters.proofs.turn.Goals as goal
 

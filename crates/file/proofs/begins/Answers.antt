@@ -2,7 +2,7 @@
 use mathlib.Core.Path.{refl, sym, ◌∙◌}
 use native.Mathlib.Numerals.{add-one}
 use lib.ListN.{drop, drop_of_length-le}
-use Rattle.file.specs.FileLaws.{begins_pass, begins_stop, begins_none}
+use Rattle.file.proofs.FileLaws.{begins_pass, begins_stop, begins_none}
 use borrow.Author.Rules.{rules}
 use Rattle.file.proofs.begins.Goals as goal
 

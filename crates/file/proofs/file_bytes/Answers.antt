@@ -1,7 +1,7 @@
 -- `file::file_bytes` computes the bytes exactly. Assumes nothing.
 use native.Mathlib.Omega.{arith}
 use Rattle.file.specs.Files.{file_bytes}
-use Rattle.file.specs.FileLaws.{factor_below}
+use Rattle.file.proofs.FileLaws.{factor_below}
 use borrow.Author.Rules.{rules}
 use Rattle.file.proofs.file_bytes.Goals as goal
 

@@ -4,7 +4,7 @@ use mathlib.Core.Path.{refl, sym, ◌∙◌}
 use native.Mathlib.Omega.{arith}
 use lib.ListN.{length}
 use Rattle.file.specs.Files.{head_bytes, file_of}
-use Rattle.file.specs.FileLaws.{not_bad}
+use Rattle.file.proofs.FileLaws.{not_bad}
 use Rattle.file.proofs.file_of.Goals.{Else-is_bad}
 use Rattle.file.proofs.file_of.Goals as goal
 

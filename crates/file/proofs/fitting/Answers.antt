@@ -1,6 +1,6 @@
 -- `file::fitting` compares the length with what n and k ask. Assumes nothing.
 use mathlib.Core.Path.{refl}
-use Rattle.file.specs.FileLaws.{bytes_fit}
+use Rattle.file.proofs.FileLaws.{bytes_fit}
 use borrow.Author.Rules.{rules}
 use Rattle.file.proofs.fitting.Goals as goal
 

@@ -2,7 +2,7 @@
 use native.Mathlib.Omega.{arith}
 use lib.ListN.{length}
 use Rattle.file.specs.Files.{slot_identifier}
-use Rattle.file.specs.FileLaws.{bytes_next, slot_fits}
+use Rattle.file.proofs.FileLaws.{bytes_next, slot_fits}
 use borrow.Author.Rules.{rules}
 use Rattle.file.proofs.identifier_of.Goals as goal
 

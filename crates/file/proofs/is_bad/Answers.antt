@@ -5,7 +5,7 @@ use native.Mathlib.Omega.{arith}
 use lib.ListN.{length}
 use Rattle.trees.proofs.CheckLaws.{outside_not}
 use Rattle.file.specs.Files.{head_bytes, most_bytes}
-use Rattle.file.specs.FileLaws.{bad_far, bad_near}
+use Rattle.file.proofs.FileLaws.{bad_far, bad_near}
 use Rattle.file.proofs.is_bad.Goals.{Else-len}
 use Rattle.file.proofs.is_bad.Goals as goal
 

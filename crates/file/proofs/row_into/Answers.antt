@@ -5,7 +5,7 @@ use native.Mathlib.Omega.{arith}
 use lib.ListN.{length}
 use Rattle.trees.specs.Checks.{row_words}
 use Rattle.file.specs.Files.{slot_row}
-use Rattle.file.specs.FileLaws.{bytes_next, slot_fits, length_slot, slot_word}
+use Rattle.file.proofs.FileLaws.{bytes_next, slot_fits, length_slot, slot_word}
 use Rattle.file.proofs.Laws.{filled_start, filled_next, filled_end}
 use borrow.Author.Rules.{rules}
 use Rattle.file.proofs.row_into.Goals.{In-loop-i}

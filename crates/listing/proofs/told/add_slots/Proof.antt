@@ -4,7 +4,7 @@ use mathlib.Core.Path.{◌≡◌, refl, sym, ap, ◌∙◌}
 use native.Mathlib.Omega.{arith}
 use lib.ListN.{length}
 use Rattle.trees.specs.Lists.{tabulate}
-use Rattle.file.specs.FileLaws.{bytes_order}
+use Rattle.file.proofs.FileLaws.{bytes_order}
 use Rattle.runs.specs.Formed.{Kept}
 use Rattle.listing.specs.Listing.{study_words, slot_call, adds_and_reports}
 use Rattle.listing.specs.ListingLaws.{adds_end, adds_stops, adds_goes}

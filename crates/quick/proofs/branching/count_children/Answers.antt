@@ -1,6 +1,6 @@
 -- `quick::branching::count_children` counts the parents, which are the words of the row after the first. Assumes nothing.
 use native.Mathlib.Omega.{arith}
-use Rattle.quick.specs.TallyLaws.{tabled_children}
+use Rattle.quick.proofs.TallyLaws.{tabled_children}
 use Rattle.quick.proofs.branching.count_children.Goals as goal
 
 pub tally-requires : goal.tally-requires

@@ -1,7 +1,7 @@
 -- `quick::climbing::mark` marks only nodes that come to the root, since the way up from v does; with each there is one unmarked node fewer. Assumes nothing.
 use native.Mathlib.Omega.{arith}
 use borrow.Author.Tests.{ne_eqb}
-use Rattle.quick.specs.MarkingLaws.{marked_more, marked_up, unmarked_fewer}
+use Rattle.quick.proofs.MarkingLaws.{marked_more, marked_up, unmarked_fewer}
 use Rattle.quick.proofs.climbing.mark.Goals as goal
 
 pub returns-then-p-eq-ROOT_MARK : goal.returns-then-p-eq-ROOT_MARK

@@ -3,7 +3,7 @@ use mathlib.Core.Path.{refl}
 use native.Mathlib.Omega.{arith}
 use borrow.Author.Tests.{eq-eqb, ne_eqb}
 use borrow.Author.Rules.{rules}
-use Rattle.quick.specs.MarkingLaws.{climbed_up, climbed_root, climbed_known, climbed_out}
+use Rattle.quick.proofs.MarkingLaws.{climbed_up, climbed_root, climbed_known, climbed_out}
 use Rattle.quick.proofs.climbing.reaches.Goals as goal
 
 pub loop-left-init : goal.loop-left-init

@@ -1,7 +1,7 @@
 -- `quick::tally::tally` counts word by word. Assumes nothing.
 use mathlib.Core.Path.{◌∙◌}
 use native.Mathlib.Omega.{arith}
-use Rattle.quick.specs.TallyLaws.{tally_start, tally_room, tally_more, tally_past, tally_end}
+use Rattle.quick.proofs.TallyLaws.{tally_start, tally_room, tally_more, tally_past, tally_end}
 use Rattle.quick.proofs.tally.tally.Goals.{then-k-lt-TABLE, else-k-lt-TABLE}
 use Rattle.quick.proofs.tally.tally.Goals as goal
 

@@ -7,7 +7,7 @@ use Rattle.trees.proofs.ListLaws.{length_zeros}
 use Rattle.file.specs.declared.File.TheVariants.{Good}
 use Rattle.ascii.specs.Ascii.{ascii}
 use Rattle.file.specs.Files.{word_at, file_bytes, begins, bad_file, file_of, slot_identifier, slot_row}
-use Rattle.file.specs.FileLaws.{sound_not_bad}
+use Rattle.file.proofs.FileLaws.{sound_not_bad}
 
 -- words as bytes, the low byte in front
 unfoldable pub bytes_of : List ℕ → List ℕ
