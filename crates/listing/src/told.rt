@@ -26,7 +26,7 @@ pub const STUDY_WORDS: usize = 32768;
 pub const ROW_ROOM: usize = 1024;
 
 // A refusal's number, slot and place (RULES 9.7); or the study's n and k, when nothing was refused.
-#[derive(Drop)]
+#[derive(Clone, Copy)]
 pub enum Told {
     Refused(usize, usize, usize),
     Ready(usize, usize),
