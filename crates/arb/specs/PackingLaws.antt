@@ -1,5 +1,5 @@
 -- Packing loses nothing of any call: numbers, places and counts are within their bits, and unpacking gives the verdict back. Assumes nothing.
-use Rattle.std.specs.Prelude.{ℕ, ◌/◌, ◌%◌, ◌<◌, ◌≡◌, refl, List, ◌∷◌, Bool, true, ◌&&◌, ltb, length}
+use Rattle.std.specs.Prelude.{ℕ, ◌/◌, ◌%◌, ◌<◌, ◌≡◌, refl, List, [], ◌∷◌, Bool, true, ◌&&◌, ltb, length}
 use Rattle.std.proofs.Common.{ap, arith, ltb-true, ne_eqb}
 use Rattle.trees.specs.Checks.{Verdict, accepted, refused, counted, wrote, Check, ◌⊳◌, judge_checks, judged}
 use Rattle.trees.specs.Valid.{Valid}
@@ -42,6 +42,7 @@ fits k = ltb 0 k && ltb k numbers
 
 given_fits : (cs : List Check) (k p : ℕ) → every fits (listed cs) ≡ true → Given k p cs → (0 < k) × (k < numbers)
 unfolding every
+given_fits [] k p e x'' = elim x'' [ ]
 given_fits (c ∷ cs) k p e (here a f) =
     let t : fits k ≡ true = rw (← a) (and_l (fits c.number) (every fits (listed cs)) e) in
     (ltb-true 0 k (and_l (ltb 0 k) (ltb k numbers) t), ltb-true k numbers (and_r (ltb 0 k) (ltb k numbers) t))

@@ -62,6 +62,7 @@ fits n run = leb 1 run.identifier && leb run.identifier most_identifier && is_ac
 
 each_fits : (n : ℕ) (rs : List Run) → every (fits n) rs ≡ true → (r : Run) → Memᴰ r rs → Fit n r
 unfolding every
+each_fits n [] e r x'' = elim x'' [ ]
 each_fits n (x ∷ rs) e r (Memᴰ.head q) = rw q (one (and_l (fits n x) (every (fits n) rs) e))
   where
     one : fits n x ≡ true → Fit n x
@@ -217,11 +218,11 @@ three-runs = record {
   some = omega arith;
 }
 
-two_runs : Stores 3 (run 1 row01 ∷ run 2 row02 ∷ []) two_runs
+two_runs_lem : Stores 3 (run 1 row01 ∷ run 2 row02 ∷ []) two_runs
 unfolding tabulate filter first weigh size lowest same list_first before member nodes parent meets ends group_at groups ◌⊳◌ row_checks
     judge_checks judged
     enter ordered group_set last_with parents row_of renumbered every find insert_run gathered slots encode runs capacity
-two_runs = record {
+two_runs_lem = record {
   opens = λ w l. record { least = omega arith; most = omega arith; one = rw l (omega arith) };
   once = (refl, (refl, tt));
   fit = refl;
@@ -314,7 +315,7 @@ specimens_hold =
     and refl
     and first_word 3 refl
     and first_word 6 refl
-    and reports_so 3 _ _ _ _ _ two_runs two_shown
+    and reports_so 3 _ _ _ _ _ two_runs_lem two_shown
     and refl
     and refl
     and refl

@@ -1,5 +1,6 @@
-// The public calls, each with its promise; `c` has them for C.
+// The public calls, each with its promise; `c` packs their answers for C.
 #![tactic(auto)]
+
 mod c;
 
 ghost use Rattle.std.specs.Prelude.{◌≡◌};
@@ -14,7 +15,7 @@ ghost use Rattle.newick.specs.RowText.{writing};
 ghost use Rattle.newick.specs.RowText.Wanted.{plain, with_words};
 ghost use Rattle.writer.specs.Writings.{written_verdict};
 
-pub use c::pack;
+pub use c::{pack, pack_comparison, pack_written};
 use compare::Comparison;
 use judge::Answer;
 use writer::Written;

@@ -1,6 +1,7 @@
 // The agreed row in two passes over the runs: one keeps the groups that can be shown, the candidates, each with a
 // counter; the other counts exactly how many runs hold each of them.
 #![tactic(auto)]
+
 ghost use Rattle.std.specs.Prelude.{◌≡◌, ◌+◌, ◌<◌, length};
 ghost use Rattle.trees.specs.Checks.{row_words};
 ghost use Rattle.trees.specs.Tables.{table_words};

@@ -1,5 +1,6 @@
 // Comparing two rows that are handed in (RULES 8).
 #![tactic(auto)]
+
 ghost use Rattle.std.specs.Prelude.{◌≡◌, not, map, ◌+◌, ◌≤◌, eqb, length, get_or};
 ghost use Rattle.trees.specs.Lists.{range, count};
 ghost use Rattle.trees.specs.Rows.{nodes, group_at, holds};
@@ -18,7 +19,7 @@ use quick::check_row;
 use row::{check_first, renumber_valid};
 
 // Of the groups that are not trivial, how many both rows have, the first alone and the second alone (RULES 8.1, 8.2); or a refusal.
-#[derive(Drop)]
+#[derive(Clone, Copy)]
 pub enum Comparison {
     Counted(usize, usize, usize),
     Refused(usize, usize),

@@ -1,5 +1,6 @@
 // Which inner nodes of a reference row another row agrees with, and whose groups it holds.
 #![tactic(auto)]
+
 mod paths;
 mod reach;
 

@@ -16,7 +16,7 @@ use passes::{Table, lesser, step};
 
 // A node of a row that contains a group, or NO_NODE, and the first and the last place of those of its children that the
 // group touches; the last is counted from the end.
-#[derive(Drop)]
+#[derive(Clone, Copy)]
 struct Reach {
     node: u16,
     first: u16,

@@ -1,5 +1,5 @@
 -- Taking runs in one by one: it starts with the bare row, and what passes of a run can be merged into what is accepted. Assumes nothing.
-use Rattle.std.specs.Prelude.{ℕ, suc, ◌+◌, ◌≤◌, ◌<◌, ◌≡◌, Bool, true, false, cond, length, get_or}
+use Rattle.std.specs.Prelude.{ℕ, zero, suc, ◌+◌, ◌≤◌, ◌<◌, ◌≡◌, Bool, true, false, cond, length, get_or}
 use Rattle.std.proofs.Common.{ap, subst, ◌∙◌, arith, ext_get_or}
 use mathlib.Core.List.{List, [], ◌∷◌, Memᴰ}
 use Rattle.std.proofs.lemmas.List.{get_or-replicate}
@@ -36,6 +36,7 @@ bare_nodes n = nodes_row n (whole n ∷ [])
 
 pub bare_leaf : (n w : ℕ) → 0 < w → w ≤ n → get_or (bare_row n) w 0 ≡ n
 unfolding parent last_with
+bare_leaf n zero h l = elim h [ ]
 bare_leaf n (suc s) h l = parent_leaf n (whole n ∷ []) s l ∙ ap (λ (b : Bool). cond b n root_mark) (has_whole n s l)
 
 pub bare_root : (n : ℕ) → get_or (bare_row n) (n + 1) 0 ≡ root_mark

@@ -1,5 +1,6 @@
 // Counting over the runs of a study: how many hold each group of a row, which groups pass, and the agreed row.
 #![tactic(auto)]
+
 mod holding;
 mod plain;
 mod rule;

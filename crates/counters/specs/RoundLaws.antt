@@ -1,11 +1,11 @@
 -- A round over rows is a step of the counters: the new row has the new candidates, and the new table their counters. Assumes nothing.
-use Rattle.std.specs.Prelude.{ℕ, ◌+◌, ◌-◌, ◌≤◌, ◌<◌, ◌≡◌, refl, ◌⊎◌, List, Bool, true, false, ◌||◌, not, cond, eqb, ltb, length}
-use Rattle.std.proofs.Common.{sym, ap, ◌∙◌, subst, inl, inr, ⊎_elim, true≢false, arith, eqb-true, eq-eqb, ne_eqb, ltb-true, ltb-false, lt-ltb, le-ltb}
-use Rattle.std.proofs.lemmas.Bool.{false≢true, eqb-false, not-true, not-false}
+use Rattle.std.specs.Prelude.{ℕ, ◌+◌, ◌≤◌, ◌<◌, ◌≡◌, ◌⊎◌, List, Bool, true, false, not, cond, eqb, ltb, length}
+use Rattle.std.proofs.Common.{sym, ap, ◌∙◌, subst, inl, inr, ⊎_elim, true≢false, arith, eqb-true, ltb-true, ltb-false, lt-ltb}
+use Rattle.std.proofs.lemmas.Bool.{eqb-false, not-true, not-false}
 use Rattle.std.proofs.lemmas.List.{get_or-replicate}
 use Rattle.trees.specs.Groups.{Group, has, whole, size, lowest, agree, conflict, member}
 use Rattle.trees.specs.Rows.{nodes, group_at, groups, inner, holds}
-use Rattle.trees.specs.Valid.{Valid, In, Standard}
+use Rattle.trees.specs.Valid.{In, Standard}
 use Rattle.trees.specs.Numbering.{row_of}
 use Rattle.trees.specs.Tables.{Flags, table_words, entry}
 use Rattle.trees.specs.Merging.{flagged, kept, merged, Mergeable}

@@ -1,6 +1,7 @@
 // One round of the counters over rows: a run is counted at the candidates, those that come to 0 are dropped, and the
 // groups of the run that agree with all candidates enter.
 #![tactic(auto)]
+
 ghost use Rattle.std.specs.Prelude.{◌≡◌, ◌+◌, ◌<◌, ◌≤◌, length};
 ghost use Rattle.trees.specs.Rows.{nodes};
 ghost use Rattle.trees.specs.Checks.{row_words};

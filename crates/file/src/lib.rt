@@ -25,7 +25,7 @@ const WORD_BYTES: usize = 2;
 pub const MOST_BYTES: usize = 65529;
 
 // A file is refused with 15, or has n samples and k runs.
-#[derive(Drop)]
+#[derive(Clone, Copy)]
 pub enum File {
     Bad,
     Good(usize, usize),

@@ -11,14 +11,14 @@ ghost use Rattle.trees.specs.WayLaws.{Closed};
 ghost use Rattle.judge.specs.Verdicts.{verdict};
 
 // Acceptance, or the number and the place of a refusal (RULES 7.1).
-#[derive(Drop)]
+#[derive(Clone, Copy)]
 pub enum Answer {
     Accepted,
     Refused(usize, usize),
 }
 
 // The numbers of the refusals (RULES 7.5).
-#[derive(Drop)]
+#[derive(Clone, Copy)]
 pub struct Refusal;
 
 impl Refusal {

@@ -49,9 +49,10 @@ links_other (l ∷ ls) row c h = go (decide (eqb c l.child)) (λ k. links_other 
 pub links_get : (ls : List Link) (row : List ℕ) (l : Link) → Memᴰ l ls → keyed l.child ls ≤ 1 → suc l.child < length row
     → get_or (sets ls row) (suc l.child) 0 ≡ l.up
 unfolding sets weigh
+links_get [] row l m h i = elim m [ ]
 links_get (k ∷ ls) row l (Memᴰ.head e) h i =
     subst (λ (z : Link). get_or (sets ls (set row (suc k.child) k.up)) (suc z.child) 0 ≡ z.up) (sym e)
-    (links_other ls (set row (suc k.child) k.up) k.child (let h' = rw e at h in
+    (links_other ls (set row (suc k.child) k.up) k.child (let h' = subst (λ (z : Link). keyed z.child (k ∷ ls) ≤ 1) e h in
     omega (arith, rw (eq-eqb k.child k.child refl) at h'))
     ∙ get_or-set_same row (suc k.child) k.up 0 (let i' = rw e at i in i'))
 links_get (k ∷ ls) row l (Memᴰ.tail m) h i =

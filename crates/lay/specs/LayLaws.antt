@@ -1,5 +1,5 @@
 -- Each node of a laid tree is linked once, but for the topmost; each inner node has two links or more. Assumes nothing.
-use Rattle.std.specs.Prelude.{ℕ, ◌+◌, ◌-◌, ◌≤◌, ◌<◌, ◌≡◌, refl, ◌⊎◌, Bool, true, false, cond, eqb, ltb, leb, length}
+use Rattle.std.specs.Prelude.{ℕ, ◌+◌, ◌≤◌, ◌<◌, ◌≡◌, refl, ◌⊎◌, Bool, true, false, cond, eqb, ltb, leb, length}
 use Rattle.std.proofs.Common.{sym, ap, ◌∙◌, inl, inr, ⊎_elim, add-zero, arith, length-append, ltb-true, ltb-false, leb-true, leb-false, le-leb, eqb-true, ne_eqb, lt-ltb}
 use mathlib.Core.List.Memᴰ
 use mathlib.Core.List.{List, [], ◌∷◌, ◌++◌, Memᴰ}
@@ -79,6 +79,7 @@ ups_last : (k n m c p : ℕ) (ls : List Link) → ((l : Link) → Memᴰ l ls �
 ups_last k n m c p ls h a b e l i = ⊎_elim (λ j. let q = h l j in (q.0, omega (arith, q.1))) (λ j. one j) (Memᴰ.append_cases ls i)
   where
     one : Memᴰ l (link c p ∷ []) → (k ≤ l.up) × (l.up < m)
+    one (Memᴰ.tail j) = elim j [ ]
     one (Memᴰ.head q) = rw q (b, e)
 
 -- at a comma

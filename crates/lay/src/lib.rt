@@ -1,5 +1,6 @@
 // The nodes of a Newick text, laid into a row as the text is read (RULES 14).
 #![tactic(auto)]
+
 mod keep;
 mod subtrees;
 mod tables;

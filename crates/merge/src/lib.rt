@@ -1,5 +1,6 @@
 // Merging two standard rows: the row of the groups that are kept of either, in time that grows with the number of nodes.
 #![tactic(auto)]
+
 mod carrying;
 
 ghost use Rattle.std.specs.Prelude.{◌≡◌, true, cond, eqb, ◌<◌, ◌≤◌, max, length};
@@ -49,7 +50,7 @@ fn rank_or_end(n: usize, m: usize, sizes: &Table, lows: &Table, v: usize) -> usi
 }
 
 // Whether the first row's node takes the next number, whether the second's does, and the smallest sample of their group.
-#[derive(Drop)]
+#[derive(Clone, Copy)]
 struct Choice {
     first: bool,
     second: bool,

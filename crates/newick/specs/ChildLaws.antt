@@ -1,9 +1,9 @@
 -- Of the nodes of a valid row: each sample below a node is below one child of it, two children of a node differ in their smallest samples, fewer
 -- inner nodes are below a child than below its parent, and all are below the root. Assumes nothing.
-use Rattle.std.specs.Prelude.{ℕ, suc, ◌-◌, ◌≤◌, ◌<◌, ◌≡◌, ◌⊎◌, List, [], true, false, ◌&&◌, cond, eqb, ltb}
+use Rattle.std.specs.Prelude.{ℕ, suc, ◌-◌, ◌≤◌, ◌<◌, ◌≡◌, ◌⊎◌, List, true, false, ◌&&◌, cond, eqb, ltb}
 use Rattle.std.proofs.Common.{zero-le, sym, subst, ◌∙◌, inl, inr, ⊎_elim, arith, ltb-true, ltb-false, eqb-true, eq-eqb}
 use Rattle.std.proofs.lemmas.Bool.{false≢true, eqb-false}
-use Rattle.trees.specs.Lists.{range, count, at, first}
+use Rattle.trees.specs.Lists.{range, count, first}
 use Rattle.trees.specs.Groups.{lowest}
 use Rattle.trees.specs.Rows.{nodes, parent, root_mark, child_of, meets, group_at}
 use Rattle.trees.specs.Valid.{Valid}

@@ -1,7 +1,7 @@
 -- The children of a node as its text has them: each once, none beside. Assumes nothing.
-use Rattle.std.specs.Prelude.{ℕ, ◌-◌, ◌<◌, ◌≡◌, refl, Bool, ◌&&◌, eqb, length}
+use Rattle.std.specs.Prelude.{ℕ, ◌<◌, ◌≡◌, refl, Bool, ◌&&◌, eqb, length}
 use Rattle.std.proofs.Common.{zero-le, subst, ◌∙◌, arith}
-use mathlib.Core.List.{List, [], Memᴰ}
+use mathlib.Core.List.{List, Memᴰ}
 use borrow.Author.Tests.{eqb-true, eq-eqb}
 use Rattle.trees.specs.Lists.{range, count}
 use Rattle.trees.specs.Groups.{lowest}

@@ -9,7 +9,7 @@ use Rattle.newick.specs.Tree.Forest.{more}
 use Rattle.newick.specs.Tree.Stack.{top, opened, later}
 use Rattle.newick.specs.Bytes.{closing_byte, colon_byte, comma_byte, nought_byte, opening_byte, point_byte, semicolon_byte}
 use Rattle.newick.specs.Bytes.{kind_of, is_blank, is_digit}
-use Rattle.newick.specs.Bytes.Kind.{blank, left, right, comma, semicolon, colon, digit}
+use Rattle.newick.specs.Bytes.Kind.{blank, right, comma, semicolon, colon, digit}
 use Rattle.newick.specs.Walk.{State, Parse, parsed, walk, final, step, entered, longer, shut, next, last}
 use Rattle.newick.specs.Walk.State.{want, sample, closed, support, ended, measure, whole, point, part, measured, done}
 use Rattle.newick.specs.Walk.Move.{to}

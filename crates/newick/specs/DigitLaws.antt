@@ -11,8 +11,8 @@ use Rattle.newick.specs.Bytes.{is_digit}
 use Rattle.newick.specs.Grammar.{All, Sample, Support}
 use Rattle.newick.specs.Grammar.All.{none, and}
 
-is_digit : (d : ℕ) → d < 10 → is_digit (digit d) ≡ true
-is_digit d h = and_both (leb nought_byte (nought_byte + d)) (leb (nought_byte + d) nine_byte)
+is_digit_lem : (d : ℕ) → d < 10 → is_digit (digit d) ≡ true
+is_digit_lem d h = and_both (leb nought_byte (nought_byte + d)) (leb (nought_byte + d) nine_byte)
     (le-leb nought_byte (nought_byte + d) (omega arith)) (le-leb (nought_byte + d) nine_byte (omega arith))
 
 pub all_snoc : (t : ℕ → Bool) {l : List ℕ} (b : ℕ) → t b ≡ true → All t l → All t (l ++ (b ∷ []))
@@ -21,8 +21,8 @@ all_snoc t b e (and c l d a) = and c (l ++ (b ∷ [])) d (all_snoc t b e a)
 
 decimal_all : (x : ℕ) → All is_digit (decimal x)
 decimal_all x = by_tenths (λ y. All is_digit (decimal y))
-    (λ y h. rw (decimal_small y h) (and (digit y) [] (is_digit y h) none))
-    (λ y h a. rw (decimal_step y h) (all_snoc is_digit (digit (y % 10)) (is_digit (y % 10) (omega arith)) a))
+    (λ y h. rw (decimal_small y h) (and (digit y) [] (is_digit_lem y h) none))
+    (λ y h a. rw (decimal_step y h) (all_snoc is_digit (digit (y % 10)) (is_digit_lem (y % 10) (omega arith)) a))
     (suc x) x (omega arith)
 
 -- the digits of x: one or more, of value x

@@ -1,5 +1,5 @@
 -- Reading what was written gives the row renumbered. Assumes nothing.
-use Rattle.std.specs.Prelude.{ℕ, ◌-◌, ◌≡◌, refl, List, [], Bool, cond, ltb, length}
+use Rattle.std.specs.Prelude.{ℕ, ◌≡◌, refl, List, [], Bool, cond, ltb, length}
 use Rattle.std.proofs.Common.{ap, subst, ◌∙◌, arith, ltb-true}
 use Rattle.trees.specs.Groups.{Group, member}
 use Rattle.trees.specs.Rows.{nodes, meets, groups}

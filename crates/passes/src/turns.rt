@@ -19,7 +19,7 @@ fn turn(n: usize, m: usize, i: usize) -> usize
 }
 
 // A node and its parent.
-#[derive(Drop)]
+#[derive(Clone, Copy)]
 pub struct Edge {
     pub node: usize,
     pub up: usize,

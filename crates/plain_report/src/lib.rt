@@ -8,9 +8,7 @@ ghost use Rattle.runs.specs.Words.{runs};
 ghost use Rattle.runs.specs.Reports.{reported};
 ghost use Rattle.judge.specs.Verdicts.{verdict};
 ghost use Rattle.count.specs.Studies.{Study};
-ghost use Rattle.arb.specs.Packing.{packed};
 
-use arb::pack;
 use count::{agreed_row, holders};
 use judge::{Answer, nodes};
 use passes::{TABLE, Table};
@@ -51,19 +49,4 @@ pub fn report_plain(words: &[u16], p: usize, agreed: &mut [u16], support: &mut [
     };
     plain_rows(words, p, agreed, support);
     Answer::Accepted
-}
-
-// The same for C.
-#[unsafe(no_mangle)]
-pub extern "C" fn arb_report_plain(
-    words: &[u16],
-    p: usize,
-    agreed: &mut [u16],
-    support: &mut [u16],
-) -> u64
-    ensures answer { result ≡ packed (reported words.now p agreed.old support.old).verdict }
-    ensures agreed { agreed.new ≡ (reported words.now p agreed.old support.old).agreed_row }
-    ensures support { support.new ≡ (reported words.now p agreed.old support.old).support_row }
-{
-    pack(report_plain(words, p, agreed, support))
 }

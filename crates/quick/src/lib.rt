@@ -1,5 +1,6 @@
 // The checks of a row with local tables: the same answers as judging's, in linear time. For calls that have room for a table.
 #![tactic(auto)]
+
 ghost use Rattle.std.specs.Prelude.{◌≡◌, ◌≤◌, length};
 ghost use Rattle.trees.specs.Checks.{accepted, ◌⊳◌, fewest_samples, most_samples, row_words, row_checks};
 ghost use Rattle.judge.specs.Verdicts.{verdict};

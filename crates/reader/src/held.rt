@@ -1,4 +1,4 @@
-// A reader over a text. Its functions take it apart and leave the work to `steps`; a walk of the MIR proves each.
+// A reader over a text. Its functions take it apart and leave the work to `steps`.
 ghost use Rattle.std.specs.Prelude.{◌≡◌};
 ghost use Rattle.reader.specs.Steps.{semicolon_from, blanks_from, end_from, Ready, Reads, WholeOf};
 ghost use Rattle.scan.specs.declared.Progress.TheVariants.{Reached};
@@ -8,7 +8,7 @@ use lay::{Kept, Marks, Row};
 use scan::Progress;
 
 // A reader: the text, and how far it has come in it.
-#[derive(Drop)]
+#[derive(Clone, Copy)]
 pub struct Reader<'a> {
     pub text: &'a [u8],
     pub progress: Progress,

@@ -1,6 +1,7 @@
 // Reading a Newick text: whether it is of the form, its samples and pairs, and the standard row with its groups (RULES
 // 14).
 #![tactic(auto)]
+
 mod checks;
 mod held;
 mod reading;

@@ -47,7 +47,7 @@ const SUPPORTS: u16 = 1;
 const WORD: usize = 65536;
 
 // The head of a request: the call, its numbers x and y, and how many words its buffers have.
-#[derive(Drop)]
+#[derive(Clone, Copy)]
 pub struct Head {
     pub op: u16,
     pub x: u16,
@@ -58,7 +58,7 @@ pub struct Head {
 }
 
 // The head of a reply: a refusal's number and place, both 0 for an accepted call, and three counts.
-#[derive(Drop)]
+#[derive(Clone, Copy)]
 pub struct Reply {
     pub number: usize,
     pub place: usize,
@@ -68,7 +68,7 @@ pub struct Reply {
 }
 
 // What comes of a request.
-#[derive(Drop)]
+#[derive(Clone, Copy)]
 pub enum Outcome {
     Told(Reply),
     Unknown,

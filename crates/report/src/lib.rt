@@ -1,5 +1,6 @@
 // The report of a study: its checks, the agreed row (RULES 5.4) and the support row (RULES 5.5).
 #![tactic(auto)]
+
 mod thresholds;
 
 ghost use Rattle.std.specs.Prelude.{◌≡◌, ◌≤◌, eqb, length};

@@ -1,5 +1,6 @@
 // Renumbering a row.
 #![tactic(auto)]
+
 mod numbers;
 mod renumbering;
 mod standard;

@@ -8,7 +8,7 @@ use crate::numbers::{Number, sample};
 use crate::tails::tail;
 
 // A sample with the place past what follows it; an opening bracket at a place; or no subtree goes on at a place.
-#[derive(Drop)]
+#[derive(Clone, Copy)]
 pub enum Start {
     Leaf(Number),
     Pair(usize),

@@ -1,6 +1,7 @@
 // What stands at a place of a Newick text: blanks, digits, a sample, what may follow a subtree, how a subtree starts
 // (RULES 14).
 #![tactic(auto)]
+
 mod bytes;
 mod heads;
 mod numbers;
@@ -12,7 +13,7 @@ pub use numbers::Number;
 pub use tails::closes;
 
 // How far a reading has come: it reached a place, or it stopped at one, where no text of the form goes on.
-#[derive(Drop)]
+#[derive(Clone, Copy)]
 pub enum Progress {
     Reached(usize),
     Stopped(usize),

@@ -12,7 +12,7 @@ const MORE_DIGITS: usize = 4;
 const TEN: usize = 10;
 
 // A sample, and the place past it.
-#[derive(Drop)]
+#[derive(Clone, Copy)]
 pub struct Number {
     pub value: usize,
     pub end: usize,

@@ -20,7 +20,7 @@ pub fn slot_words(n: usize) -> usize
 }
 
 // What a header says: n and k (RULES 6.2).
-#[derive(Drop)]
+#[derive(Clone, Copy)]
 pub struct Header {
     pub samples: u16,
     pub in_force: u16,

@@ -1,5 +1,6 @@
 // A study's header and its slots: where they stand, the search for one, one put in, one closed up.
 #![tactic(auto)]
+
 mod header;
 mod moves;
 mod search;

@@ -25,7 +25,7 @@ pub fn slot_row(words: &[u16], n: usize, p: usize) -> &[u16]
 }
 
 // The slot in which an identifier stands, or, where it is not taken, the slot before which it would.
-#[derive(Drop)]
+#[derive(Clone, Copy)]
 pub struct Spot {
     pub at: usize,
     pub taken: bool,

@@ -52,7 +52,7 @@ fn close_at(words: &mut [u16], from: usize, to: usize, width: usize)
 }
 
 // The words of the slots from one on, up to the end of the last.
-#[derive(Drop)]
+#[derive(Clone, Copy)]
 struct Span {
     from: usize,
     to: usize,

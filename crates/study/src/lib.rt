@@ -1,5 +1,6 @@
 // A study in lent words: when it is well formed, and the calls that open, add and withdraw.
 #![tactic(auto)]
+
 mod calls;
 mod checks;
 mod form;

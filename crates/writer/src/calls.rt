@@ -17,7 +17,7 @@ use judge::{Answer, Refusal};
 use quick::check_row;
 
 // The length of the text that is written, or a refusal.
-#[derive(Drop)]
+#[derive(Clone, Copy)]
 pub enum Written {
     Length(usize),
     Refused(usize, usize),

@@ -1,5 +1,6 @@
 // Writing the Newick text of a row (RULES 14).
 #![tactic(auto)]
+
 mod calls;
 mod lengths;
 mod texts;

@@ -9,12 +9,11 @@ use Prim.Native.Nat.{min}
 use Rattle.passes.proofs.pass.least.Goals as goal
 
 pub loop-i-init : goal.loop-i-init
-loop-i-init c =
-    (
-      c.nodes-m.ensures,
-      lowering_start c.args.n c.args.row.now c.requires.0 c.args.key.now _ c.requires.1 c.seed.ensures.1
-          (rw c.nodes-m.ensures at c.seed.ensures.0),
-    )
+loop-i-init c = (
+  c.nodes-m.ensures,
+  lowering_start c.args.n c.args.row.now c.requires.0 c.args.key.now _ c.requires.1 c.seed.ensures.1
+      (rw c.nodes-m.ensures at c.seed.ensures.0),
+)
 
 pub overflow_add-i : goal.overflow_add-i
 overflow_add-i c = omega arith
@@ -31,12 +30,11 @@ pub loop-i-smaller : goal.loop-i-smaller
 loop-i-smaller c = omega arith
 
 pub loop-i-preserved : goal.loop-i-preserved
-loop-i-preserved c =
-    (
-      c.loop-i.invariant.0,
-      passing_step c.args.n c.args.row.now c.requires.0 min root_mark mins (entry c.args.key.now) c.loop-i.i
-          c.loop-i.out _ _ _ (omega arith) c.step-t.ensures c.loop-i.invariant.1 c.lower.ensures,
-    )
+loop-i-preserved c = (
+  c.loop-i.invariant.0,
+  passing_step c.args.n c.args.row.now c.requires.0 min root_mark mins (entry c.args.key.now) c.loop-i.i
+      c.loop-i.out _ _ _ (omega arith) c.step-t.ensures c.loop-i.invariant.1 c.lower.ensures,
+)
 
 pub returns : goal.returns
 returns c =

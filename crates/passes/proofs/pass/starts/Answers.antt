@@ -18,12 +18,11 @@ pub overflow_sub-i : goal.overflow_sub-i
 overflow_sub-i c = omega arith
 
 pub loop-i-init : goal.loop-i-init
-loop-i-init c =
-    (
-      c.nodes-m.ensures,
-      laying_start c.args.n c.args.row.now c.requires.0 c.args.start.now _ (ap (λ (m : ℕ). m - 1) c.nodes-m.ensures)
-          c.requires.2,
-    )
+loop-i-init c = (
+  c.nodes-m.ensures,
+  laying_start c.args.n c.args.row.now c.requires.0 c.args.start.now _ (ap (λ (m : ℕ). m - 1) c.nodes-m.ensures)
+      c.requires.2,
+)
 
 pub overflow_sub-i-in-loop-i : goal.overflow_sub-i-in-loop-i
 overflow_sub-i-in-loop-i c = omega arith

@@ -14,13 +14,12 @@ pub bounds-size-last : goal.bounds-size-last
 bounds-size-last c = omega arith
 
 pub rising-requires : goal.rising-requires
-rising-requires c =
-    (
-      c.requires.most,
-      omega (arith, c.nodes-last.ensures, few _ _ c.requires),
-      record
-          { le = λ v h. (ranked_most c.args.n c.args.row.now _ _ c.ranks.ensures.0).le v (omega (arith, c.nodes-last.ensures, c.requires.low)) },
-    )
+rising-requires c = (
+  c.requires.most,
+  omega (arith, c.nodes-last.ensures, few _ _ c.requires),
+  record
+      { le = λ v h. (ranked_most c.args.n c.args.row.now _ _ c.ranks.ensures.0).le v (omega (arith, c.nodes-last.ensures, c.requires.low)) },
+)
 
 pub returns : goal.returns
 returns c =

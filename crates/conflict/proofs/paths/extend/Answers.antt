@@ -1,0 +1,48 @@
+-- `conflict::paths::extend` adds one node. Assumes nothing.
+use Prim.Native.Nat.{◌<◌}
+use mathlib.Core.Path.{◌≡◌}
+use native.Mathlib.Omega.{arith}
+use Rattle.trees.specs.Tables.{table_words, entry}
+use Rattle.trees.specs.FallsLaws.{few}
+use Rattle.conflict.specs.PathLaws.{paths_begin, paths_on}
+use Rattle.conflict.proofs.paths.extend.Goals.{After-parent-p}
+use Rattle.conflict.proofs.paths.extend.Goals as goal
+
+pub parent-p-requires : goal.parent-p-requires
+parent-p-requires c = omega (arith, c.requires.0.words, c.requires.0.high)
+
+-- the parent is a word of a table
+low : (c : After-parent-p) → c.parent-p.result < table_words
+low c =
+    let a = c.args in
+    omega (arith, c.parent-p.ensures, c.requires.0.down a.v c.requires.1 c.requires.2, few a.n a.row.now c.requires.0)
+
+pub offset_bounds-next-p : goal.offset_bounds-next-p
+offset_bounds-next-p c = omega (arith, low c)
+
+pub bounds-next-p : goal.bounds-next-p
+bounds-next-p c = omega (arith, low (goal.at.bounds-next-p c).After-parent-p)
+
+pub returns-then-next-p-ne-NO_NODE : goal.returns-then-next-p-ne-NO_NODE
+returns-then-next-p-ne-NO_NODE c =
+    let a = c.args in
+    let z : 0 < entry a.next.now c.parent-p.result = omega arith in
+    paths_begin _ _ c.requires.0 _ _ _ c.requires.3 c.requires.1 c.requires.2 (rw c.parent-p.ensures at z)
+
+pub offset_bounds-next-p-2 : goal.offset_bounds-next-p-2
+offset_bounds-next-p-2 c = omega (arith, low (goal.at.offset_bounds-next-p-2 c).After-parent-p)
+
+pub bounds-next-p-2 : goal.bounds-next-p-2
+bounds-next-p-2 c = omega (arith, low (goal.at.bounds-next-p-2 c).After-parent-p)
+
+pub offset_bounds-head-p : goal.offset_bounds-head-p
+offset_bounds-head-p c = omega (arith, low (goal.at.offset_bounds-head-p c).After-parent-p)
+
+pub bounds-head-p : goal.bounds-head-p
+bounds-head-p c = omega (arith, low (goal.at.bounds-head-p c).After-parent-p)
+
+pub returns : goal.returns
+returns c =
+    let a = c.args in
+    let z : entry a.next.now c.parent-p.result ≡ 0 = omega arith in
+    rw c.parent-p.ensures (paths_on _ _ c.requires.0 _ _ _ c.requires.3 c.requires.1 c.requires.2 (rw c.parent-p.ensures at z))

@@ -1,0 +1,16 @@
+-- `mates::spread` meets its contract. Assumes nothing.
+use Rattle.trees.specs.Tables.{entry}
+use Rattle.trees.specs.Mates.{from_end}
+use Rattle.trees.specs.TableLaws.{end_keys, tabled_least}
+use Rattle.mates.proofs.spread.Goals as goal
+
+pub least-requires-2 : goal.least-requires-2
+least-requires-2 c =
+    (c.requires.0, end_keys c.args.n c.args.start.now _ c.requires.1 c.all_from_end.ensures, c.requires.3)
+
+pub returns : goal.returns
+returns c = (
+  c.least.ensures,
+  tabled_least c.args.n c.args.row.now _ (from_end c.args.n (entry c.args.start.now)) _ c.all_from_end.ensures
+      c.least-2.ensures,
+)

@@ -1,0 +1,34 @@
+-- `merge::merge_ranked` writes the row of the merged groups; the first row's numbers stay. Assumes nothing.
+use mathlib.Core.Path.{refl, ◌∙◌}
+use Rattle.trees.specs.Lockstep.{blank}
+use Rattle.trees.specs.MergedRowLaws.{merged_climbable, merged_row}
+use Rattle.merge.specs.SettlingLaws.{merged_settled}
+use Rattle.merge.proofs.merge_ranked.Goals as goal
+
+pub lockstep-c-requires : goal.lockstep-c-requires
+unfolding blank
+lockstep-c-requires c =
+    (c.requires.0, c.requires.1, c.requires.2, refl, refl, refl)
+
+pub raise-requires : goal.raise-requires
+raise-requires c =
+    (c.requires.0.first, c.lockstep-c.ensures.words_a)
+
+pub raise-requires-2 : goal.raise-requires-2
+raise-requires-2 c =
+    (c.requires.0.second, c.lockstep-c.ensures.words_b)
+
+pub parents-requires : goal.parents-requires
+parents-requires c =
+    merged_climbable c.requires.0 c.lockstep-c.ensures c.raise.ensures.0 c.raise-2.ensures.0
+
+pub write_row-requires : goal.write_row-requires
+write_row-requires c =
+    let ready = merged_climbable c.requires.0 c.lockstep-c.ensures c.raise.ensures.0 c.raise-2.ensures.0 in
+    (c.requires.0.first, c.requires.0.second, ready.most, c.requires.4)
+
+pub returns : goal.returns
+returns c =
+    let long = c.write_row.auto.out ∙ c.requires.4 in
+    let e = merged_row c.requires.0 c.lockstep-c.ensures c.raise.ensures.0 c.raise-2.ensures.0 c.parents.ensures long c.write_row.ensures in
+    (e, rw e (merged_settled c.requires.0 c.lockstep-c.ensures c.raise.ensures.0), c.raise.ensures.1)

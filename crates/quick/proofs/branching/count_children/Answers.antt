@@ -1,0 +1,12 @@
+-- `quick::branching::count_children` counts the parents, which are the words of the row after the first. Assumes nothing.
+use native.Mathlib.Omega.{arith}
+use Rattle.quick.specs.TallyLaws.{tabled_children}
+use Rattle.quick.proofs.branching.count_children.Goals as goal
+
+pub tally-requires : goal.tally-requires
+tally-requires c =
+    let pre = c.requires in
+    (omega (arith, pre.0.words), omega (arith, pre.0.fits), pre.1)
+
+pub returns : goal.returns
+returns c = tabled_children _ _ _ c.nodes.ensures c.tally.ensures.counted

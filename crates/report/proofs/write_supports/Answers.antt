@@ -1,0 +1,17 @@
+-- `report::write_supports` writes word by word. Assumes nothing.
+use mathlib.Core.Path.{refl}
+use native.Mathlib.Omega.{arith}
+use Rattle.report.specs.Supports.{support_word}
+use Rattle.passes.proofs.Filling.{filling_start, filling_more, filling_end}
+use Rattle.report.proofs.write_supports.Goals as goal
+
+pub loop-w-init : goal.loop-w-init
+loop-w-init c = filling_start (omega arith) refl
+
+pub loop-w-preserved : goal.loop-w-preserved
+loop-w-preserved c =
+    filling_more c.loop-w.invariant (omega (arith, c.loop-w.invariant.long)) (omega arith) c.support_word.ensures
+
+pub returns : goal.returns
+returns c =
+    filling_end c.loop-w.invariant (omega (arith, c.loop-w.invariant.long))

@@ -1,0 +1,31 @@
+-- `writer::texts::root` finds the root: it is at the place or ahead of it. Assumes nothing.
+use mathlib.Core.Path.{sym, ◌∙◌}
+use native.Mathlib.Omega.{arith}
+use Rattle.writer.proofs.RowLaws.{ahead_start, ahead_node, ahead_next, ahead_end}
+use Rattle.writer.proofs.texts.root.Goals as goal
+
+pub loop-v-init : goal.loop-v-init
+loop-v-init c =
+    ahead_start c.requires
+
+pub parent-requires : goal.parent-requires
+parent-requires c =
+    let ok = c.requires in
+    omega (arith, ahead_node ok c.loop-v.invariant, ok.words, ok.high)
+
+pub overflow_add-v : goal.overflow_add-v
+overflow_add-v c =
+    let ok = c.requires in
+    omega (arith, ahead_node ok c.loop-v.invariant, ok.high, ok.most)
+
+pub loop-v-smaller : goal.loop-v-smaller
+loop-v-smaller c =
+    omega (arith, ahead_node c.requires c.loop-v.invariant)
+
+pub loop-v-preserved : goal.loop-v-preserved
+loop-v-preserved c =
+    ahead_next c.requires c.loop-v.invariant (λ e. c.loop-v-test.true (c.parent.ensures ∙ e))
+
+pub returns : goal.returns
+returns c =
+    ahead_end c.requires c.loop-v.invariant (sym c.parent.ensures ∙ c.loop-v-test.false)
