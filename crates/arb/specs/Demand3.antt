@@ -10,9 +10,9 @@ use Rattle.runs.specs.Runs.{every, find, present}
 use Rattle.runs.specs.Words.{runs}
 use Rattle.runs.specs.Calls.{opened, added, withdrawn, stores}
 use Rattle.runs.specs.Histories.{Call, add, after, answers, all_refused, is_add, SameGroups, Anew, adds, Renewed}
-use Rattle.runs.specs.HistoryLaws.{study_present, study_groups}
-use Rattle.runs.specs.FreshLaws.{demand_3, stored_anew}
-use Rattle.runs.specs.RoomLaws.{other_checks, room_taken, room_never}
+use Rattle.runs.proofs.HistoryLaws.{study_present, study_groups}
+use Rattle.runs.proofs.FreshLaws.{demand_3, stored_anew}
+use Rattle.runs.proofs.RoomLaws.{other_checks, room_taken, room_never}
 use Rattle.judge.specs.declared.Answer.{Answer}
 use Rattle.judge.specs.declared.Answer.TheVariants.{Accepted, Refused}
 use Rattle.judge.specs.Verdicts.{verdict}

@@ -8,7 +8,7 @@ use Rattle.runs.specs.Runs.{find}
 use Rattle.runs.specs.Words.{samples, runs, most_identifier}
 use Rattle.runs.specs.Calls.{added}
 use Rattle.runs.specs.Histories.{Call, add, called, after, answers, study_after, study_answers, SameGroups}
-use Rattle.runs.specs.StoredLaws.{added_equal, study_equal}
+use Rattle.runs.proofs.StoredLaws.{added_equal, study_equal}
 use Rattle.judge.specs.declared.Answer.{Answer}
 use Rattle.judge.specs.declared.Answer.TheVariants.{Accepted}
 use Rattle.judge.specs.Verdicts.{verdict}

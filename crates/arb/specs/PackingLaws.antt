@@ -5,25 +5,25 @@ use Rattle.trees.specs.Checks.{Verdict, accepted, refused, counted, wrote, Check
 use Rattle.trees.specs.Valid.{Valid}
 use Rattle.trees.specs.Comparing.{shared, alone, nontrivial, compared}
 use Rattle.trees.specs.RowCalls.{renumber_checks, renumbering, compare_checks, comparing}
-use Rattle.trees.specs.BoolLaws.{and_l, and_r}
-use Rattle.trees.specs.ChainLaws.{Passed, passed_chain, Given, here, later, chain_holds, numbers as listed}
-use Rattle.trees.specs.CheckLaws.{judged_numbers}
-use Rattle.trees.specs.ComparingLaws.{shared_alone, nontrivial_most}
-use Rattle.trees.specs.RowCallLaws.{renumbering_numbers, comparing_numbers, comparing_accepts}
-use Rattle.trees.specs.PlacedLaws.{Placed, most_places, judged_placed, renumbering_placed, comparing_placed}
+use Rattle.trees.proofs.BoolLaws.{and_l, and_r}
+use Rattle.trees.proofs.ChainLaws.{Passed, passed_chain, Given, here, later, chain_holds, numbers as listed}
+use Rattle.trees.proofs.CheckLaws.{judged_numbers}
+use Rattle.trees.proofs.ComparingLaws.{shared_alone, nontrivial_most}
+use Rattle.trees.proofs.RowCallLaws.{renumbering_numbers, comparing_numbers, comparing_accepts}
+use Rattle.trees.proofs.PlacedLaws.{Placed, most_places, judged_placed, renumbering_placed, comparing_placed}
 use Rattle.runs.specs.Runs.{every}
 use Rattle.runs.specs.Calls.{open_checks, opened, add_checks, added, withdraw_checks, withdrawn}
 use Rattle.runs.specs.Reports.{report_checks, reported}
-use Rattle.runs.specs.CallLaws.{opened_numbers}
-use Rattle.runs.specs.AddLaws.{added_numbers}
-use Rattle.runs.specs.WithdrawLaws.{withdrawn_numbers}
-use Rattle.runs.specs.ReportLaws.{reported_numbers, reported_placed}
-use Rattle.runs.specs.PlacedLaws.{opened_placed, added_placed, withdrawn_placed}
+use Rattle.runs.proofs.CallLaws.{opened_numbers}
+use Rattle.runs.proofs.AddLaws.{added_numbers}
+use Rattle.runs.proofs.WithdrawLaws.{withdrawn_numbers}
+use Rattle.runs.proofs.ReportLaws.{reported_numbers, reported_placed}
+use Rattle.runs.proofs.PlacedLaws.{opened_placed, added_placed, withdrawn_placed}
 use Rattle.newick.specs.Walk.{parsed}
 use Rattle.newick.specs.ReadCalls.{read_checks, reading}
-use Rattle.newick.specs.ReadCallLaws.{reading_numbers, reading_placed}
+use Rattle.newick.proofs.ReadCallLaws.{reading_numbers, reading_placed}
 use Rattle.newick.specs.RowText.{Wanted, written, write_checks, writing}
-use Rattle.newick.specs.WriteLaws.{writing_numbers, writing_placed, writing_accepts}
+use Rattle.newick.proofs.WriteLaws.{writing_numbers, writing_placed, writing_accepts}
 use Rattle.writer.specs.Lengths.{SmallWords}
 use Rattle.writer.specs.LengthLaws.{written_most}
 use Rattle.arb.specs.Packing.{numbers, places, counts, packed, unpacked_by, unpacked, counts_in, unpacked_counts}

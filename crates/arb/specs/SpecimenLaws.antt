@@ -15,19 +15,19 @@ use Rattle.trees.specs.RowCalls.{renumbering, compare_checks, comparing}
 use Rattle.trees.specs.Reporting.{Run, support, total, held, shown, agreed, supports_of, supports}
 use Rattle.trees.specs.Thresholds.{InRange, threshold}
 use Rattle.trees.specs.Majority.{is_shown}
-use Rattle.trees.specs.BoolLaws.{and_l, and_r}
-use Rattle.trees.specs.ValidLaws.{accepted_to, judged_valid, only_two, nodes_refused}
-use Rattle.trees.specs.RowCallLaws.{renumbering_accepts}
+use Rattle.trees.proofs.BoolLaws.{and_l, and_r}
+use Rattle.trees.proofs.ValidLaws.{accepted_to, judged_valid, only_two, nodes_refused}
+use Rattle.trees.proofs.RowCallLaws.{renumbering_accepts}
 use Rattle.runs.specs.Runs.{every, rising, find, insert_run}
 use Rattle.runs.specs.Words.{samples, in_force, runs, slots, encode, capacity, most_identifier}
 use Rattle.runs.specs.Formed.{same_words, well_formed}
 use Rattle.runs.specs.Calls.{opened}
 use Rattle.runs.specs.Histories.{Distinct, identified, adds, study_after}
 use Rattle.runs.specs.Reports.{Report, rule_of, reported}
-use Rattle.runs.specs.CallLaws.{Opens, opened_accepts}
-use Rattle.runs.specs.HistoryLaws.{study_kept}
-use Rattle.runs.specs.FreshLaws.{Fit, gathered, filled_takes, filled_words}
-use Rattle.runs.specs.ReportLaws.{reported_accepts}
+use Rattle.runs.proofs.CallLaws.{Opens, opened_accepts}
+use Rattle.runs.proofs.HistoryLaws.{study_kept}
+use Rattle.runs.proofs.FreshLaws.{Fit, gathered, filled_takes, filled_words}
+use Rattle.runs.proofs.ReportLaws.{reported_accepts}
 use Rattle.trees.specs.Case.{agreed_row, support_row, bare_of3, over_one, chain_at_root, pair_of4, chain_inside}
 use Rattle.ascii.specs.Ascii.{ascii}
 use Rattle.ascii.specs.Decimal.{digits, decimal}
@@ -39,7 +39,7 @@ use Rattle.newick.specs.Meaning as meaning
 use Rattle.newick.specs.ReadCalls.{tree_in, text_checks, read_checks, row_in, reading}
 use Rattle.newick.specs.RowText.{Wanted, Fitting, gather, by_lowest, children_of, commas, listed, node_text, written, write_checks, writing}
 use Rattle.newick.specs.RowText.Wanted.{plain, with_words}
-use Rattle.newick.specs.WriteLaws.{writing_accepts, writing_bytes}
+use Rattle.newick.proofs.WriteLaws.{writing_accepts, writing_bytes}
 use Rattle.arb.specs.Specimens.{Says, renumbers, nodes_give, RunsGive, leaves, fills, shows, AllSay, nothing, ◌and◌, run, row01, row02}
 use Rattle.arb.specs.Specimens.{case_runs, trivial_row, trivial_supports, three_runs, two_runs, chain_words, one_run, specimens}
 

@@ -1,5 +1,6 @@
 // The calls for C: each answers one number, packed as arb's `specs/Packing` says. A slice is a pointer and a length.
 #![tactic(auto)]
+
 ghost use Rattle.std.specs.Prelude.{◌≡◌};
 ghost use Rattle.trees.specs.Checks.{refused, counted, wrote, judged};
 ghost use Rattle.trees.specs.RowCalls.{renumbering, comparing};

@@ -14,14 +14,16 @@ use Rattle.trees.specs.Merging.{flagged, merged, Mergeable}
 use Rattle.trees.specs.Reporting.{Run, support, agreed}
 use Rattle.trees.specs.Thresholds.{InRange}
 use Rattle.trees.specs.Majority.{majority, references}
-use Rattle.trees.specs.GroupLaws.{Agree, under, size_whole}
-use Rattle.trees.specs.MemberLaws.{in_none, in_head, in_cases}
-use Rattle.trees.specs.RowLaws.{in_groups, inner_in}
-use Rattle.trees.specs.NodeLaws.{big_inner}
-use Rattle.trees.specs.FamilyLaws.{Family}
-use Rattle.trees.specs.PlantingLaws.{planted_standard}
-use Rattle.trees.specs.ReportingLaws.{Holder, total_length}
-use Rattle.trees.specs.MajorityLaws.{majority_held, majority_early}
+use Rattle.trees.proofs.GroupLaws.{size_whole}
+use Rattle.trees.specs.Groups.{under}
+use Rattle.trees.specs.Groups.{Agree}
+use Rattle.trees.proofs.MemberLaws.{in_none, in_head, in_cases}
+use Rattle.trees.proofs.RowLaws.{in_groups, inner_in}
+use Rattle.trees.proofs.NodeLaws.{big_inner}
+use Rattle.trees.proofs.FamilyLaws.{Family}
+use Rattle.trees.proofs.PlantingLaws.{planted_standard}
+use Rattle.trees.proofs.ReportingLaws.{Holder, total_length}
+use Rattle.trees.proofs.MajorityLaws.{majority_held, majority_early}
 use Rattle.runs.specs.Words.{runs, run_at, most_runs}
 use Rattle.count.specs.Studies.{Study, row_at}
 use Rattle.count.specs.StudyLaws.{study_least, study_most, study_few, study_length, study_run, study_valid}
@@ -31,10 +33,10 @@ use Rattle.count.specs.Holders.{holders_at, Marked}
 use Rattle.count.specs.HolderLaws.{marked_majority}
 use Rattle.merge.specs.Carrying.{CarriedOver}
 use Rattle.sides.specs.Sides.{against}
-use Rattle.sides.specs.SideLaws.{shown_ahead}
+use Rattle.sides.proofs.SideLaws.{shown_ahead}
 use Rattle.sides.specs.Counters.{Tally, blank, step, tallied, tally_at}
-use Rattle.sides.specs.CounterLaws.{Keeps, final_keeps}
-use Rattle.sides.specs.TallyLaws.{tally_next, tally_keeps, tally_most}
+use Rattle.sides.proofs.CounterLaws.{Keeps, final_keeps}
+use Rattle.sides.proofs.TallyLaws.{tally_next, tally_keeps, tally_most}
 use Rattle.counters.specs.Rounds.{Tied, weight, Room, Ready, Rounded}
 use Rattle.candidates.specs.Candidates.{Candidates, Enough, Agreed}
 use Rattle.candidates.specs.FinalLaws.{final_mergeable, final_row, final_holders}

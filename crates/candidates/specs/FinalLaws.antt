@@ -11,14 +11,14 @@ use Rattle.trees.specs.Numbering.{row_of, branching}
 use Rattle.trees.specs.Tables.{Tabled, entry}
 use Rattle.trees.specs.Merging.{flagged, kept, merged, Mergeable}
 use Rattle.trees.specs.Reporting.{Run, Rule, support, held, shown, agreed}
-use Rattle.trees.specs.BoolLaws.{and_l, and_r, and_both, or_l, true_eq}
-use Rattle.trees.specs.MemberLaws.{member_filter, strict_filter, strict_unique}
-use Rattle.trees.specs.RowLaws.{in_inner, inner_in, inner_two, group_agree}
-use Rattle.trees.specs.StandardLaws.{root_whole}
-use Rattle.trees.specs.NodeLaws.{node_distinct}
-use Rattle.trees.specs.NumberingLaws.{row_tree}
-use Rattle.trees.specs.ReportingLaws.{Runs, Holder, Sound, in_held, shown_member, shown_strict}
-use Rattle.trees.specs.MergingLaws.{in_kept, kept_in, merged_family, merged_cases, merged_first, merged_standard, merged_exactly}
+use Rattle.trees.proofs.BoolLaws.{and_l, and_r, and_both, or_l, true_eq}
+use Rattle.trees.proofs.MemberLaws.{member_filter, strict_filter, strict_unique}
+use Rattle.trees.proofs.RowLaws.{in_inner, inner_in, inner_two, group_agree}
+use Rattle.trees.proofs.StandardLaws.{root_whole}
+use Rattle.trees.proofs.NodeLaws.{node_distinct}
+use Rattle.trees.proofs.NumberingLaws.{row_tree}
+use Rattle.trees.proofs.ReportingLaws.{Runs, Holder, Sound, in_held, shown_member, shown_strict}
+use Rattle.trees.proofs.MergingLaws.{in_kept, kept_in, merged_family, merged_cases, merged_first, merged_standard, merged_exactly}
 use Rattle.count.specs.Holders.{holders_at}
 use Rattle.merge.specs.Settling.{Settled}
 use Rattle.merge.specs.Carrying.{Carried}

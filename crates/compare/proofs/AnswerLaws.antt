@@ -6,8 +6,8 @@ use Rattle.trees.specs.Checks.{Verdict, accepted, Check, ◌⊳◌, row_words, r
 use Rattle.trees.specs.Valid.{Valid}
 use Rattle.trees.specs.Comparing.{compared}
 use Rattle.trees.specs.RowCalls.{moved, renumber_checks, compare_checks, comparing}
-use Rattle.trees.specs.ChainLaws.{chain_append, chain_passed, passed_chain}
-use Rattle.trees.specs.RowCallLaws.{moved_verdict, chain_moved, comparing_accepts}
+use Rattle.trees.proofs.ChainLaws.{chain_append, chain_passed, passed_chain}
+use Rattle.trees.proofs.RowCallLaws.{moved_verdict, chain_moved, comparing_accepts}
 use Rattle.judge.specs.declared.Answer.{Answer}
 use Rattle.judge.specs.declared.Answer.TheVariants.{Accepted}
 use Rattle.judge.specs.Verdicts.{verdict}

@@ -15,11 +15,11 @@ use Rattle.trees.specs.Numbering.{renumbered}
 use Rattle.trees.specs.Comparing.{shared, alone, nontrivial, compared}
 use Rattle.trees.specs.Tables.{Tabled, table_words}
 use Rattle.trees.specs.Mates.{no_mate, mate_of}
-use Rattle.trees.specs.ListLaws.{in-range, count_same}
-use Rattle.trees.specs.RowLaws.{inner_two}
-use Rattle.trees.specs.NumberingLaws.{renumbered_standard}
-use Rattle.trees.specs.MateLaws.{mate_holds}
-use Rattle.trees.specs.ComparingLaws.{shared_comm, shared_alone, nontrivial_strict, compared_renumbered, nontrivial_nodes, shared_standard}
+use Rattle.trees.proofs.ListLaws.{in-range, count_same}
+use Rattle.trees.proofs.RowLaws.{inner_two}
+use Rattle.trees.proofs.NumberingLaws.{renumbered_standard}
+use Rattle.trees.proofs.MateLaws.{mate_holds}
+use Rattle.trees.proofs.ComparingLaws.{shared_comm, shared_alone, nontrivial_strict, compared_renumbered, nontrivial_nodes, shared_standard}
 
 -- a table has room for a row
 pub row_room : (n : ℕ) (t : List ℕ) → length t ≡ table_words → n ≤ most_samples → length (take (row_words n) t) ≡ row_words n

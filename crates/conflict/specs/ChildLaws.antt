@@ -5,10 +5,10 @@ use Rattle.std.proofs.lemmas.Bool.{eqb-false}
 use Rattle.trees.specs.Groups.{has}
 use Rattle.trees.specs.Rows.{nodes, parent, group_at}
 use Rattle.trees.specs.Falls.{Falls, due}
-use Rattle.trees.specs.BoolLaws.{decide}
-use Rattle.trees.specs.WayLaws.{meets_past, meets_line}
-use Rattle.trees.specs.RowLaws.{Above, group_has}
-use Rattle.trees.specs.TurnLaws.{due_one, parent_in, above_due}
+use Rattle.trees.proofs.BoolLaws.{decide}
+use Rattle.trees.proofs.WayLaws.{meets_past, meets_line}
+use Rattle.trees.proofs.RowLaws.{Above, group_has}
+use Rattle.trees.proofs.TurnLaws.{due_one, parent_in, above_due}
 
 module _ (n : ℕ) (r : List ℕ) (ok : Falls n r) where
   -- the parent of a node is inner, so that the node is not the root

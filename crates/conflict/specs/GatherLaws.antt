@@ -10,14 +10,14 @@ use Rattle.trees.specs.Falls.{Falls}
 use Rattle.trees.specs.Tables.{Tabled, Flags, Most, table_words, entry, size_at, least_at}
 use Rattle.trees.specs.Passes.{part, Stepped, Starts}
 use Rattle.trees.specs.Mates.{from_end}
-use Rattle.trees.specs.BoolLaws.{not_yes, decide}
-use Rattle.trees.specs.NeverLaws.{side}
-use Rattle.trees.specs.ListLaws.{length_tabulate}
-use Rattle.trees.specs.GroupLaws.{has_lt, lowest_has, single_has, single_own}
-use Rattle.trees.specs.RowLaws.{Above, group_full, inner_two}
-use Rattle.trees.specs.FallsLaws.{standard_falls, few}
-use Rattle.trees.specs.TurnLaws.{due_low}
-use Rattle.trees.specs.PassLaws.{node_child, part_start, part_full, part_other, part_both}
+use Rattle.trees.proofs.BoolLaws.{not_yes, decide}
+use Rattle.trees.proofs.NeverLaws.{side}
+use Rattle.trees.proofs.ListLaws.{length_tabulate}
+use Rattle.trees.proofs.GroupLaws.{has_lt, lowest_has, single_has, single_own}
+use Rattle.trees.proofs.RowLaws.{Above, group_full, inner_two}
+use Rattle.trees.proofs.FallsLaws.{standard_falls, few}
+use Rattle.trees.proofs.TurnLaws.{due_low}
+use Rattle.trees.proofs.PassLaws.{node_child, part_start, part_full, part_other, part_both}
 use Rattle.sides.specs.Sides.{conflicts}
 use Rattle.conflict.specs.declared.reach.Reach.{Reach}
 use Rattle.conflict.specs.Paths.{Paths, Onward}

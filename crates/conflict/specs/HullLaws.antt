@@ -10,15 +10,17 @@ use Rattle.trees.specs.Falls.{Falls}
 use Rattle.trees.specs.Tables.{size_at, least_at}
 use Rattle.trees.specs.Passes.{Starts}
 use Rattle.trees.specs.Mates.{from_end}
-use Rattle.trees.specs.BoolLaws.{and_l, and_r, and_both, true_eq, not_yes, decide}
-use Rattle.trees.specs.WayLaws.{meets_line}
-use Rattle.trees.specs.GroupLaws.{Within, Agree, under, over, aside, conflict_to, agree_to, within_size, within_eq, single_small}
-use Rattle.trees.specs.RowLaws.{Above, length_group, group_has, groups-in, in_groups, leaf_group, above_within, step_down, no_leaf_above}
-use Rattle.trees.specs.TurnLaws.{falls_rooted}
-use Rattle.trees.specs.TableLaws.{least_le, least_ge}
-use Rattle.trees.specs.PlaceLaws.{place_low, placed}
+use Rattle.trees.proofs.BoolLaws.{and_l, and_r, and_both, true_eq, not_yes, decide}
+use Rattle.trees.proofs.WayLaws.{meets_line}
+use Rattle.trees.proofs.GroupLaws.{conflict_to, agree_to, within_size, within_eq, single_small}
+use Rattle.trees.specs.Groups.{under, over, aside}
+use Rattle.trees.specs.Groups.{Within, Agree}
+use Rattle.trees.proofs.RowLaws.{Above, length_group, group_has, groups-in, in_groups, leaf_group, above_within, step_down, no_leaf_above}
+use Rattle.trees.proofs.TurnLaws.{falls_rooted}
+use Rattle.trees.proofs.TableLaws.{least_le, least_ge}
+use Rattle.trees.proofs.PlaceLaws.{place_low, placed}
 use Rattle.sides.specs.Sides.{conflicts}
-use Rattle.sides.specs.SideLaws.{crossed_by, crossed_in}
+use Rattle.sides.proofs.SideLaws.{crossed_by, crossed_in}
 use Rattle.conflict.specs.declared.reach.Reach.{Reach}
 use Rattle.conflict.specs.Spans.{Touches, Joined, covers}
 

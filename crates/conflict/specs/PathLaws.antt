@@ -10,16 +10,17 @@ use Rattle.trees.specs.Valid.{Standard}
 use Rattle.trees.specs.Rooted.{Rooted}
 use Rattle.trees.specs.Falls.{Falls}
 use Rattle.trees.specs.Tables.{table_words, entry, size_at}
-use Rattle.trees.specs.BoolLaws.{not_yes, decide}
-use Rattle.trees.specs.ListLaws.{length_zeros, get_or_zeros}
-use Rattle.trees.specs.NeverLaws.{side, Tri, less, equal, more, tri}
-use Rattle.trees.specs.WayLaws.{meets_refl, meets_past}
-use Rattle.trees.specs.GroupLaws.{Within, Apart, within_size}
-use Rattle.trees.specs.OrderLaws.{before_size}
-use Rattle.trees.specs.RowLaws.{Above, above_trans, child_above, child_within, no_leaf_above}
-use Rattle.trees.specs.StandardLaws.{node_before}
-use Rattle.trees.specs.FallsLaws.{standard_falls, few}
-use Rattle.trees.specs.TurnLaws.{turn_inner, falls_rooted, above_due}
+use Rattle.trees.proofs.BoolLaws.{not_yes, decide}
+use Rattle.trees.proofs.ListLaws.{length_zeros, get_or_zeros}
+use Rattle.trees.proofs.NeverLaws.{side, Tri, less, equal, more, tri}
+use Rattle.trees.proofs.WayLaws.{meets_refl, meets_past}
+use Rattle.trees.proofs.GroupLaws.{within_size}
+use Rattle.trees.specs.Groups.{Within, Apart}
+use Rattle.trees.proofs.OrderLaws.{before_size}
+use Rattle.trees.proofs.RowLaws.{Above, above_trans, child_above, child_within, no_leaf_above}
+use Rattle.trees.proofs.StandardLaws.{node_before}
+use Rattle.trees.proofs.FallsLaws.{standard_falls, few}
+use Rattle.trees.proofs.TurnLaws.{turn_inner, falls_rooted, above_due}
 use Rattle.conflict.specs.Paths.{Goes, begins, goes_on, Paths, Onward}
 use Rattle.conflict.specs.ChildLaws.{one_child}
 

@@ -2,7 +2,7 @@
 use Rattle.std.specs.Prelude.{ℕ, ◌<◌, ◌≡◌, List, length}
 use Rattle.trees.specs.Rows.{nodes, parent}
 use Rattle.trees.specs.Tables.{table_words, entry}
-use Rattle.trees.specs.RowLaws.{Above}
+use Rattle.trees.proofs.RowLaws.{Above}
 
 -- by the node at which the path of each begins, and the child with which it goes on: v begins a path, where a sibling
 -- of a smaller number goes on with their parent's, or v itself goes on

@@ -5,12 +5,12 @@ use Rattle.trees.specs.Groups.{Group, has}
 use Rattle.trees.specs.Rows.{nodes, parent, meets, group_at}
 use Rattle.trees.specs.Rooted.{Rooted}
 use Rattle.trees.specs.Falls.{Falls}
-use Rattle.trees.specs.BoolLaws.{or_cases, or_l, or_r, decide}
-use Rattle.trees.specs.NeverLaws.{side}
-use Rattle.trees.specs.WayLaws.{meets_refl, meets_past, meets_line}
-use Rattle.trees.specs.GroupLaws.{Within}
-use Rattle.trees.specs.RowLaws.{Above, group_has, in_group, above_trans, child_above, child_within, above_within}
-use Rattle.trees.specs.TurnLaws.{falls_rooted}
+use Rattle.trees.proofs.BoolLaws.{or_cases, or_l, or_r, decide}
+use Rattle.trees.proofs.NeverLaws.{side}
+use Rattle.trees.proofs.WayLaws.{meets_refl, meets_past, meets_line}
+use Rattle.trees.specs.Groups.{Within}
+use Rattle.trees.proofs.RowLaws.{Above, group_has, in_group, above_trans, child_above, child_within, above_within}
+use Rattle.trees.proofs.TurnLaws.{falls_rooted}
 use Rattle.conflict.specs.declared.reach.Reach.{Reach}
 use Rattle.conflict.specs.ChildLaws.{not_above, above_both, one_child}
 use Rattle.conflict.specs.Spans.{Touches, Spans, Joined, up_from, lesser_of, Both, Climbed, Common}

@@ -2,8 +2,8 @@
 use Rattle.std.specs.Prelude.{ℕ, ◌+◌, ◌≤◌, ◌<◌, min, ◌≡◌, List, Bool, true, ◌&&◌, ◌||◌, leb}
 use Rattle.trees.specs.Groups.{Group, has}
 use Rattle.trees.specs.Rows.{nodes, parent, group_at}
-use Rattle.trees.specs.GroupLaws.{Within}
-use Rattle.trees.specs.RowLaws.{Above}
+use Rattle.trees.specs.Groups.{Within}
+use Rattle.trees.proofs.RowLaws.{Above}
 use Rattle.conflict.specs.declared.reach.Reach.{Reach}
 
 -- u is a child of q that shares a sample with x

@@ -12,10 +12,10 @@ use Rattle.trees.specs.Mates.{no_mate, mate_of}
 use Rattle.trees.specs.Merging.{flagged}
 use Rattle.trees.specs.Reporting.{Run, worth, support, total}
 use Rattle.trees.specs.Majority.{is_shown, majority}
-use Rattle.trees.specs.ListLaws.{length_zeros, get_or_zeros, weigh_append, weigh_mono}
-use Rattle.trees.specs.RowLaws.{inner_two}
-use Rattle.trees.specs.MateLaws.{mate_holds}
-use Rattle.trees.specs.ReportingLaws.{total_length}
+use Rattle.trees.proofs.ListLaws.{length_zeros, get_or_zeros, weigh_append, weigh_mono}
+use Rattle.trees.proofs.RowLaws.{inner_two}
+use Rattle.trees.proofs.MateLaws.{mate_holds}
+use Rattle.trees.proofs.ReportingLaws.{total_length}
 use Rattle.count.specs.Holders.{holders_at, Test, passing_at, with_mate, with_run, Under, Counting, Marked}
 
 -- a mate is counted exactly where the run holds the group

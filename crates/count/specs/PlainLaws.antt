@@ -11,8 +11,8 @@ use Rattle.trees.specs.Reporting.{Run, agreed}
 use Rattle.trees.specs.Thresholds.{InRange}
 use Rattle.trees.specs.Majority.{majority, references}
 use Rattle.trees.specs.Merging.{merged, Mergeable}
-use Rattle.trees.specs.ReportingLaws.{Sound}
-use Rattle.trees.specs.CountingLaws.{so_far_start, majority_so_far, Passing}
+use Rattle.trees.proofs.ReportingLaws.{Sound}
+use Rattle.trees.proofs.CountingLaws.{so_far_start, majority_so_far, Passing}
 use Rattle.runs.specs.Words.{runs, run_at}
 use Rattle.count.specs.Studies.{Study, row_at}
 use Rattle.count.specs.StudyLaws.{study_most, study_length, study_run, study_all, study_some, study_sound, study_standard}

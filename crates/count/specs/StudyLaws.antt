@@ -8,12 +8,12 @@ use Rattle.trees.specs.Valid.{Standard}
 use Rattle.trees.specs.Reporting.{Run, agreed}
 use Rattle.trees.specs.Thresholds.{InRange}
 use Rattle.trees.specs.Majority.{majority}
-use Rattle.trees.specs.ListLaws.{member_at, get_d_tabulate}
-use Rattle.trees.specs.ReportingLaws.{Runs, Sound}
-use Rattle.trees.specs.MajorityLaws.{majority_sound, majority_standard}
+use Rattle.trees.proofs.ListLaws.{member_at, get_d_tabulate}
+use Rattle.trees.proofs.ReportingLaws.{Runs, Sound}
+use Rattle.trees.proofs.MajorityLaws.{majority_sound, majority_standard}
 use Rattle.runs.specs.Words.{samples, in_force, slot_start, slot_words, run_at, runs, most_runs}
-use Rattle.runs.specs.WordLaws.{length_runs}
-use Rattle.runs.specs.SlotLaws.{slot_within, formed_fits, formed_few}
+use Rattle.runs.proofs.WordLaws.{length_runs}
+use Rattle.runs.proofs.SlotLaws.{slot_within, formed_fits, formed_few}
 use Rattle.count.specs.Studies.{Study, row_at}
 
 module _ (w : List ℕ) (n k : ℕ) (study : Study w n k) where

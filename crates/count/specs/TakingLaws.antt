@@ -12,13 +12,13 @@ use Rattle.trees.specs.Tables.{Tabled, table_words}
 use Rattle.trees.specs.Reporting.{Run, Rule}
 use Rattle.trees.specs.Counting.{so_far}
 use Rattle.trees.specs.Merging.{merged, Mergeable}
-use Rattle.trees.specs.GroupLaws.{has_whole}
-use Rattle.trees.specs.RowOfLaws.{nodes_row, parent_leaf, parent_inner, length_row, filler_row}
-use Rattle.trees.specs.PlantingLaws.{planted_standard}
-use Rattle.trees.specs.BoolLaws.{or_l}
-use Rattle.trees.specs.MergingLaws.{merged_first, merged_second}
-use Rattle.trees.specs.ReportingLaws.{Sound}
-use Rattle.trees.specs.CountingLaws.{so_far_family, so_far_step, AllKept, Passing}
+use Rattle.trees.proofs.GroupLaws.{has_whole}
+use Rattle.trees.proofs.RowOfLaws.{nodes_row, parent_leaf, parent_inner, length_row, filler_row}
+use Rattle.trees.proofs.PlantingLaws.{planted_standard}
+use Rattle.trees.proofs.BoolLaws.{or_l}
+use Rattle.trees.proofs.MergingLaws.{merged_first, merged_second}
+use Rattle.trees.proofs.ReportingLaws.{Sound}
+use Rattle.trees.proofs.CountingLaws.{so_far_family, so_far_step, AllKept, Passing}
 use Rattle.count.specs.Plain.{bare_row, all}
 
 -- a buffer whose words are those of ws is ws

@@ -9,20 +9,22 @@ use Rattle.trees.specs.Valid.{In, Standard}
 use Rattle.trees.specs.Numbering.{row_of}
 use Rattle.trees.specs.Tables.{Flags, table_words, entry}
 use Rattle.trees.specs.Merging.{flagged, kept, merged, Mergeable}
-use Rattle.trees.specs.BoolLaws.{true_eq, not_yes, or_r, decide}
-use Rattle.trees.specs.NeverLaws.{side}
-use Rattle.trees.specs.GroupLaws.{Agree, under, over, aside, conflict_to, agree_to, lowest_has, size_one, size_two}
-use Rattle.trees.specs.GroupLaws.{within_whole, single_small}
-use Rattle.trees.specs.RowLaws.{length_group, in_inner, inner_in, in_groups, groups-in, leaf_group, valid_rooted, inner_two}
-use Rattle.trees.specs.StandardLaws.{root_whole}
-use Rattle.trees.specs.NodeLaws.{big_inner, node_distinct}
-use Rattle.trees.specs.FallsLaws.{standard_falls, few}
-use Rattle.trees.specs.NumberingLaws.{row_tree}
-use Rattle.trees.specs.MergingLaws.{agree_sym, in_kept, kept_in, merged_standard, merged_exactly}
+use Rattle.trees.proofs.BoolLaws.{true_eq, not_yes, or_r, decide}
+use Rattle.trees.proofs.NeverLaws.{side}
+use Rattle.trees.proofs.GroupLaws.{conflict_to, agree_to, lowest_has, size_one, size_two}
+use Rattle.trees.specs.Groups.{under, over, aside}
+use Rattle.trees.specs.Groups.{Agree}
+use Rattle.trees.proofs.GroupLaws.{within_whole, single_small}
+use Rattle.trees.proofs.RowLaws.{length_group, in_inner, inner_in, in_groups, groups-in, leaf_group, valid_rooted, inner_two}
+use Rattle.trees.proofs.StandardLaws.{root_whole}
+use Rattle.trees.proofs.NodeLaws.{big_inner, node_distinct}
+use Rattle.trees.proofs.FallsLaws.{standard_falls, few}
+use Rattle.trees.proofs.NumberingLaws.{row_tree}
+use Rattle.trees.proofs.MergingLaws.{agree_sym, in_kept, kept_in, merged_standard, merged_exactly}
 use Rattle.sides.specs.Sides.{crossed, conflicts}
-use Rattle.sides.specs.SideLaws.{conflict_swap, crossed_by, crossed_in, held_peaceful}
+use Rattle.sides.proofs.SideLaws.{conflict_swap, crossed_by, crossed_in, held_peaceful}
 use Rattle.sides.specs.Counters.{Tally, moved, step}
-use Rattle.sides.specs.CounterLaws.{Keeps, moved_contra, moved_neither, moved_falls, round_gain}
+use Rattle.sides.proofs.CounterLaws.{Keeps, moved_contra, moved_neither, moved_falls, round_gain}
 use Rattle.merge.specs.Settling.{Settled}
 use Rattle.merge.specs.Carrying.{Carried, CarriedOver}
 use Rattle.counters.specs.Rounds.{Tied, Round, turned, turned_in, turned_by, Turned, Entering, weight, weights, Ready, Rounded}

@@ -7,7 +7,7 @@ use Rattle.trees.specs.Tables.{Tabled, Flags, table_words, entry}
 use Rattle.trees.specs.Merging.{flagged}
 use Rattle.sides.specs.Sides.{conflicts}
 use Rattle.sides.specs.Counters.{Tally, step}
-use Rattle.sides.specs.CounterLaws.{Keeps}
+use Rattle.sides.proofs.CounterLaws.{Keeps}
 
 -- The row q has the candidates of two samples or more and the whole, and the table t their counters.
 pub record Tied (n : ℕ) (s : Tally) (q t : List ℕ) : Type 0 where

@@ -3,9 +3,9 @@ use Rattle.std.specs.Prelude.{ℕ, suc, ◌+◌, ◌*◌, ◌^◌, ◌≤◌, �
 use Rattle.std.proofs.Common.{◌∙◌, mul-le-mul, mul-le-mul_right, le-mul_of_pos_right, add-mul, zero-add, arith, drop-cons, eq-eqb, ne_eqb, eqb-true}
 use Rattle.std.proofs.lemmas.Bool.{not-false}
 use Rattle.trees.specs.Checks.{row_words, outside}
-use Rattle.trees.specs.BoolLaws.{or_none}
-use Rattle.trees.specs.CheckLaws.{outside_not, not_outside}
-use Rattle.trees.specs.ListLaws.{length_tabulate, get_d_tabulate}
+use Rattle.trees.proofs.BoolLaws.{or_none}
+use Rattle.trees.proofs.CheckLaws.{outside_not, not_outside}
+use Rattle.trees.proofs.ListLaws.{length_tabulate, get_d_tabulate}
 use Rattle.ascii.specs.Ascii.{ascii}
 use Rattle.file.specs.Files.{word_at, file_samples, file_runs, file_version, head_bytes, most_bytes, file_bytes, begins, bad_file, file_of, slot_row}
 use Rattle.file.specs.declared.File.TheVariants.{Bad, Good}

@@ -3,7 +3,7 @@ use Rattle.std.specs.Prelude.{ℕ, ◌/◌, ◌%◌, ◌≡◌, refl, List, [], 
 use Rattle.std.proofs.Common.{arith}
 use Rattle.trees.specs.Lists.{tabulate, zeros}
 use Rattle.trees.specs.Case.{row1, row2, row3}
-use Rattle.trees.specs.ListLaws.{length_zeros}
+use Rattle.trees.proofs.ListLaws.{length_zeros}
 use Rattle.file.specs.declared.File.TheVariants.{Good}
 use Rattle.ascii.specs.Ascii.{ascii}
 use Rattle.file.specs.Files.{word_at, file_bytes, begins, bad_file, file_of, slot_identifier, slot_row}

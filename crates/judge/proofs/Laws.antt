@@ -9,10 +9,10 @@ use Rattle.trees.specs.Lists.{nowhere}
 use Rattle.trees.specs.Rows.{nodes}
 use Rattle.trees.specs.Checks.{Verdict, accepted, refused, Check, ◌⊳◌, asked, fewest_samples, most_samples, row_words}
 use Rattle.trees.specs.Checks.{check1, check3, check5, check9, check10, word_checks, tree_checks, row_checks}
-use Rattle.trees.specs.ChainLaws.{chain_append, chain_stop, chain_go, passed_chain, chain_passed, chain_given, given_chain}
-use Rattle.trees.specs.ChainLaws.{asked_passes, accepted_other, line_passes}
-use Rattle.trees.specs.WayLaws.{Closed}
-use Rattle.trees.specs.CheckLaws.{outside_not, check6_closed}
+use Rattle.trees.proofs.ChainLaws.{chain_append, chain_stop, chain_go, passed_chain, chain_passed, chain_given, given_chain}
+use Rattle.trees.proofs.ChainLaws.{asked_passes, accepted_other, line_passes}
+use Rattle.trees.specs.Rows.{Closed}
+use Rattle.trees.proofs.CheckLaws.{outside_not, check6_closed}
 use Rattle.judge.specs.declared.Answer.{Answer}
 use Rattle.judge.specs.declared.Answer.TheVariants.{Accepted, Refused}
 use Rattle.judge.specs.Verdicts.{verdict}

@@ -7,7 +7,7 @@ ghost use Rattle.trees.specs.Rows.{nodes, parent, child_of, ends};
 ghost use Rattle.trees.specs.Checks.{accepted, ◌⊳◌, asked, line, stray, fewest_samples, most_samples, row_words};
 ghost use Rattle.trees.specs.Checks.{check1, check3, check5, check6, check7, check8, check9, check10, word_checks, row_checks, judged};
 ghost use Rattle.trees.specs.RowCalls.{check3_both};
-ghost use Rattle.trees.specs.WayLaws.{Closed};
+ghost use Rattle.trees.specs.Rows.{Closed};
 ghost use Rattle.judge.specs.Verdicts.{verdict};
 
 // Acceptance, or the number and the place of a refusal (RULES 7.1).

@@ -5,15 +5,15 @@ use Rattle.std.proofs.Common.{zero-le, sym, ap, ◌∙◌, inl, inr, ⊎_elim, a
 use Rattle.std.proofs.lemmas.Bool.{false≢true, eqb-false}
 use Rattle.std.proofs.Math.Nat.{le-max_left, le-max_right}
 use Rattle.trees.specs.Lists.{nowhere, range, zeros, first, weigh}
-use Rattle.trees.specs.BoolLaws.{decide}
-use Rattle.trees.specs.ListLaws.{Lowest, Scan, scan, found, missed, lowest_first, nowhere_first, length_zeros, get_or_zeros}
+use Rattle.trees.proofs.BoolLaws.{decide}
+use Rattle.trees.proofs.ListLaws.{Lowest, Scan, scan, found, missed, lowest_first, nowhere_first, length_zeros, get_or_zeros}
 use Rattle.trees.specs.Numbering.{renumbered}
 use Rattle.trees.specs.Checks.{most_samples}
 use Rattle.newick.specs.Tree.{Tree}
 use Rattle.newick.specs.Meaning.{samples, times, amiss, above}
 use Rattle.newick.specs.ReadCalls.{check18, row_in}
-use Rattle.newick.specs.FaultLaws.{above_more, stands_exactly}
-use Rattle.newick.specs.RoundTrip.{row-in}
+use Rattle.newick.proofs.FaultLaws.{above_more, stands_exactly}
+use Rattle.newick.proofs.RoundTrip.{row-in}
 use Rattle.newick.specs.Grammar.{sample_bound}
 use Rattle.lay.specs.Laying.{once_more, tally, lower, least, grow, laid_row}
 use Rattle.lay.specs.Faults.{or_at, below_place, due, bad_mark}

@@ -6,7 +6,7 @@ use Rattle.newick.specs.Tree.Held.{nothing, some}
 use Rattle.newick.specs.Tree.Tree.{pair}
 use Rattle.newick.specs.Tree.Forest.{only, more}
 use Rattle.newick.specs.Tree.Stack.{opened, later}
-use Rattle.newick.specs.ByteLaws.{kind_all}
+use Rattle.newick.proofs.ByteLaws.{kind_all}
 use Rattle.newick.specs.Bytes.{closing_byte, comma_byte, kind_of}
 use Rattle.newick.specs.Walk.{final, step, shut, next, last}
 use Rattle.newick.specs.Walk.State.{want, closed, measured}

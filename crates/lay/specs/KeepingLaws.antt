@@ -3,10 +3,10 @@ use Rattle.std.specs.Prelude.{ℕ, zero, suc, ◌+◌, ◌≤◌, ◌<◌, ◌�
 use Rattle.std.proofs.Common.{sym, ◌∙◌, inl, inr, ⊎_elim, add-one, arith, eqb-true}
 use Rattle.std.proofs.Math.Path.{ap}
 use Rattle.std.proofs.Math.Dec.{eqb}
-use Rattle.trees.specs.BoolLaws.{decide}
+use Rattle.trees.proofs.BoolLaws.{decide}
 use Rattle.trees.specs.Checks.{most_samples}
 use Rattle.trees.specs.Lists.{weigh}
-use Rattle.trees.specs.ListLaws.{weigh_append}
+use Rattle.trees.proofs.ListLaws.{weigh_append}
 use Rattle.trees.specs.Tables.{table_words}
 use Rattle.newick.specs.Tree.{Mark, Tree, Forest, Held, hold}
 use Rattle.newick.specs.Tree.Tree.{leaf, pair}

@@ -13,11 +13,11 @@ use Rattle.trees.specs.Lists.{weigh}
 use Rattle.trees.specs.Groups.{Group, member}
 use Rattle.trees.specs.Rows.{nodes, parent, root_mark, meets, group_at, groups}
 use Rattle.trees.specs.Valid.{Valid, In}
-use Rattle.trees.specs.BoolLaws.{decide, true_eq, or_cases, or_l, or_r}
-use Rattle.trees.specs.ListLaws.{weigh_append, tabulate_same}
-use Rattle.trees.specs.MemberLaws.{in_none, in_head, in_tail, in_cases, member_append}
-use Rattle.trees.specs.WayLaws.{up, met_from, meets_refl, meets_trans, meets_less}
-use Rattle.trees.specs.RowLaws.{Above, groups-in, below_child, valid_rooted}
+use Rattle.trees.proofs.BoolLaws.{decide, true_eq, or_cases, or_l, or_r}
+use Rattle.trees.proofs.ListLaws.{weigh_append, tabulate_same}
+use Rattle.trees.proofs.MemberLaws.{in_none, in_head, in_tail, in_cases, member_append}
+use Rattle.trees.proofs.WayLaws.{up, met_from, meets_refl, meets_trans, meets_less}
+use Rattle.trees.proofs.RowLaws.{Above, groups-in, below_child, valid_rooted}
 use Rattle.trees.specs.Tables.{table_words}
 use Rattle.newick.specs.Tree.{Tree, Forest}
 use Rattle.newick.specs.Tree.Tree.{leaf, pair}
@@ -26,7 +26,7 @@ use Rattle.newick.specs.Meaning.{samples, samples_in, times, among, group_of, gr
 use Rattle.lay.specs.Laying.{Link, link, Strand, Braid, node_of, next_of, first_of, part_by, then_by, shut_by, grow, spread}
 use Rattle.lay.specs.LayLaws.{is, held_at, keyed, count_last, Fine, FineIn, fine_part, next_grown, grow_few, spread_few, grow_fine}
 use Rattle.lay.specs.LayLaws.{spread_fine}
-use Rattle.newick.specs.ChildLaws.{one_child}
+use Rattle.newick.proofs.ChildLaws.{one_child}
 
 pub is_self : (x : ℕ) → is x x ≡ 1
 is_self x = rw (eq-eqb x x refl) refl

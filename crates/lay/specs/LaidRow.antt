@@ -14,15 +14,15 @@ use Rattle.trees.specs.Groups.{Group, member}
 use Rattle.trees.specs.Rows.{nodes, parent, root_mark, child_of, meets, ends, groups}
 use Rattle.trees.specs.Checks.{row_words, children}
 use Rattle.trees.specs.Valid.{Valid, In}
-use Rattle.trees.specs.BoolLaws.{decide, true_eq}
-use Rattle.trees.specs.ListLaws.{length_zeros, get_or_zeros, range_in, weigh_one, weigh_found, count_two, count_all}
-use Rattle.trees.specs.WayLaws.{Met, here, up, met_to, meets_zero, ends_up, ends_here, ends_more, ends_enough}
-use Rattle.trees.specs.RowLaws.{in_groups}
+use Rattle.trees.proofs.BoolLaws.{decide, true_eq}
+use Rattle.trees.proofs.ListLaws.{length_zeros, get_or_zeros, range_in, weigh_one, weigh_found, count_two, count_all}
+use Rattle.trees.proofs.WayLaws.{Met, here, up, met_to, meets_zero, ends_up, ends_here, ends_more, ends_enough}
+use Rattle.trees.proofs.RowLaws.{in_groups}
 use Rattle.newick.specs.Tree.{Tree}
 use Rattle.newick.specs.Meaning.{samples, times, groups_of}
 use Rattle.newick.specs.RowText.{gather}
-use Rattle.newick.specs.ListedLaws.{count_unique, length_filter, count_gather}
-use Rattle.trees.specs.ListLaws.{count_same}
+use Rattle.newick.proofs.ListedLaws.{count_unique, length_filter, count_gather}
+use Rattle.trees.proofs.ListLaws.{count_same}
 use Rattle.lay.specs.Laying.{Link, sets, Strand, grow, laid_row}
 use Rattle.lay.specs.LayLaws.{is, keyed, under, Fine, grow_few, grow_fine}
 use Rattle.lay.specs.LaidLaws.{is_self, node_in, Reach, Sat, grow_reach, grow_tells, grow_top}

@@ -5,8 +5,8 @@ use mathlib.Core.List.Memᴰ
 use mathlib.Core.List.{List, [], ◌∷◌, ◌++◌, Memᴰ}
 use Rattle.std.proofs.lemmas.Bool.{false≢true, lt-leb, eqb-false}
 use Rattle.trees.specs.Lists.{weigh, count}
-use Rattle.trees.specs.BoolLaws.{decide}
-use Rattle.trees.specs.ListLaws.{weigh_append}
+use Rattle.trees.proofs.BoolLaws.{decide}
+use Rattle.trees.proofs.ListLaws.{weigh_append}
 use Rattle.trees.specs.Tables.{table_words}
 use Rattle.newick.specs.Tree.{Tree, Forest}
 use Rattle.newick.specs.Tree.Tree.{leaf, pair}

@@ -7,17 +7,17 @@ use Rattle.trees.specs.Rows.{groups}
 use Rattle.trees.specs.Checks.{accepted}
 use Rattle.trees.specs.Valid.{Valid, Standard}
 use Rattle.trees.specs.Numbering.{renumbered}
-use Rattle.trees.specs.OutcomeLaws.{outcome_accepted}
-use Rattle.trees.specs.NumberingLaws.{renumbered_standard, renumbered_groups}
+use Rattle.trees.proofs.OutcomeLaws.{outcome_accepted}
+use Rattle.trees.proofs.NumberingLaws.{renumbered_standard, renumbered_groups}
 use Rattle.newick.specs.Tree.{Tree}
 use Rattle.newick.specs.Grammar.{Text}
 use Rattle.newick.specs.Walk.{Parse, parsed}
 use Rattle.newick.specs.Meaning.{groups_of}
 use Rattle.newick.specs.Faults.{Sized, Readable}
 use Rattle.newick.specs.ReadCalls.{tree_in, read_checks, row_in, reading}
-use Rattle.newick.specs.Complete.{complete}
-use Rattle.newick.specs.RoundTrip.{row-in}
-use Rattle.newick.specs.ReadCallLaws.{reading_accepts}
+use Rattle.newick.proofs.Complete.{complete}
+use Rattle.newick.proofs.RoundTrip.{row-in}
+use Rattle.newick.proofs.ReadCallLaws.{reading_accepts}
 use Rattle.lay.specs.Laying.{grow, laid_row}
 use Rattle.lay.specs.LaidRow.{laid_valid, laid_groups}
 

@@ -11,20 +11,21 @@ use Rattle.trees.specs.Checks.{Verdict, accepted, refused, counted, wrote, Check
 use Rattle.trees.specs.Valid.{is_accepted}
 use Rattle.trees.specs.Reporting.{agreed, supports}
 use Rattle.trees.specs.Thresholds.{least_threshold, most_threshold, threshold}
-use Rattle.trees.specs.BoolLaws.{and_l, and_r, decide}
-use Rattle.trees.specs.ListLaws.{length_zeros}
-use Rattle.trees.specs.ChainLaws.{Passed, Given, here, later, chain_holds, numbers, line_passes}
-use Rattle.trees.specs.CheckLaws.{outside_not}
-use Rattle.trees.specs.ValidLaws.{accepted_to}
+use Rattle.trees.proofs.BoolLaws.{and_l, and_r, decide}
+use Rattle.trees.proofs.ListLaws.{length_zeros}
+use Rattle.trees.proofs.ChainLaws.{Passed, Given, here, later, chain_holds, numbers, line_passes}
+use Rattle.trees.proofs.CheckLaws.{outside_not}
+use Rattle.trees.proofs.ValidLaws.{accepted_to}
 use Rattle.runs.specs.Runs.{every}
 use Rattle.runs.specs.Words.{in_force}
 use Rattle.runs.specs.Calls.{opened, added, open_checks, add_checks}
 use Rattle.runs.specs.Histories.{Call, called, answers, after}
 use Rattle.runs.specs.Reports.{Report, rule_of, reported, report_checks, report_formed_checks}
-use Rattle.runs.specs.WordLaws.{length_runs}
-use Rattle.runs.specs.FormedLaws.{formed_from}
-use Rattle.runs.specs.CallLaws.{Kept, opened_kept, opened_none}
-use Rattle.runs.specs.ReportLaws.{threshold_exactly, reported_rows}
+use Rattle.runs.proofs.WordLaws.{length_runs}
+use Rattle.runs.proofs.FormedLaws.{formed_from}
+use Rattle.runs.proofs.CallLaws.{opened_kept, opened_none}
+use Rattle.runs.specs.Formed.{Kept}
+use Rattle.runs.proofs.ReportLaws.{threshold_exactly, reported_rows}
 use Rattle.file.specs.Files.{file_samples, file_runs, bad_file, slot_identifier, slot_row}
 use Rattle.file.specs.FileLaws.{Sound, not_bad, sound_good, bad-file}
 use Rattle.listing.specs.Listing.{Listed, refusal, tree, study_words, unless, first_refused, slot_call, reports, adds_and_reports}

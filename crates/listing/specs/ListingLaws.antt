@@ -10,13 +10,14 @@ use Rattle.trees.specs.Lists.{tabulate, zeros}
 use Rattle.trees.specs.Rows.{nodes}
 use Rattle.trees.specs.Checks.{Verdict, accepted, fewest_samples, most_samples, row_words}
 use Rattle.trees.specs.Valid.{Standard}
-use Rattle.trees.specs.ListLaws.{length_tabulate, get_d_tabulate}
+use Rattle.trees.proofs.ListLaws.{length_tabulate, get_d_tabulate}
 use Rattle.runs.specs.Calls.{opened, open_checks}
-use Rattle.runs.specs.CallLaws.{Kept, opened_words, opened_kept}
+use Rattle.runs.proofs.CallLaws.{opened_words, opened_kept}
+use Rattle.runs.specs.Formed.{Kept}
 use Rattle.runs.specs.Histories.{Call, called, answers, after}
 use Rattle.runs.specs.Reports.{reported, report_checks, report_formed_checks}
 use Rattle.runs.specs.Words.{samples, most_identifier}
-use Rattle.runs.specs.ReportLaws.{reported_rows, reported_standard, reported_length}
+use Rattle.runs.proofs.ReportLaws.{reported_rows, reported_standard, reported_length}
 use Rattle.judge.specs.Verdicts.{verdict}
 use Rattle.judge.specs.declared.Answer.{Answer}
 use Rattle.judge.specs.declared.Answer.TheVariants.{Accepted, Refused as Answer-as-Refused}

@@ -14,20 +14,21 @@ use Rattle.trees.specs.Lists.{tabulate, zeros}
 use Rattle.trees.specs.Checks.{accepted, refused, ◌⊳◌, row_words, check3, row_checks}
 use Rattle.trees.specs.Valid.{is_accepted}
 use Rattle.trees.specs.Reporting.{Run}
-use Rattle.trees.specs.BoolLaws.{and_l, and_r, and_both, true_eq}
-use Rattle.trees.specs.ListLaws.{tabulate_add, length_zeros}
-use Rattle.trees.specs.ChainLaws.{chain_go, Passed, passed_chain, chain_passed, Given, chain_given, given_chain, numbers, accepted_other}
-use Rattle.trees.specs.ValidLaws.{accepted_to}
+use Rattle.trees.proofs.BoolLaws.{and_l, and_r, and_both, true_eq}
+use Rattle.trees.proofs.ListLaws.{tabulate_add, length_zeros}
+use Rattle.trees.proofs.ChainLaws.{chain_go, Passed, passed_chain, chain_passed, Given, chain_given, given_chain, numbers, accepted_other}
+use Rattle.trees.proofs.ValidLaws.{accepted_to}
 use Rattle.runs.specs.Runs.{every, find, is_some, present}
 use Rattle.runs.specs.Words.{samples, in_force, runs, header_words, slot_words, capacity, full, most_identifier}
 use Rattle.runs.specs.Calls.{check4, check11, check12, add_formed_checks, stores, opened, added}
 use Rattle.runs.specs.Histories.{Call, identified, called, after, answers, study_after}
-use Rattle.runs.specs.RunLaws.{length_insert}
-use Rattle.runs.specs.WordLaws.{length_runs}
-use Rattle.runs.specs.FormedLaws.{formed_from}
-use Rattle.runs.specs.CallLaws.{Kept, opened_accepts, opened_none}
-use Rattle.runs.specs.AddLaws.{added_accepts, added_runs, added_find, added_formed}
-use Rattle.runs.specs.HistoryLaws.{study_kept}
+use Rattle.runs.proofs.RunLaws.{length_insert}
+use Rattle.runs.proofs.WordLaws.{length_runs}
+use Rattle.runs.proofs.FormedLaws.{formed_from}
+use Rattle.runs.proofs.CallLaws.{opened_accepts, opened_none}
+use Rattle.runs.specs.Formed.{Kept}
+use Rattle.runs.proofs.AddLaws.{added_accepts, added_runs, added_find, added_formed}
+use Rattle.runs.proofs.HistoryLaws.{study_kept}
 use Rattle.file.specs.Files.{file_samples, file_runs, slot_identifier, slot_row}
 use Rattle.file.specs.FileLaws.{Sound, length_slot}
 use Rattle.listing.specs.Listing.{study_words, slot_call}

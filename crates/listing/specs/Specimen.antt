@@ -11,8 +11,8 @@ use Rattle.trees.specs.Reporting.{support, total, held, shown, agreed, supports_
 use Rattle.trees.specs.Thresholds.{threshold}
 use Rattle.trees.specs.Majority.{is_shown}
 use Rattle.trees.specs.Case.{agreed_row, support_row}
-use Rattle.trees.specs.BoolLaws.{and_l, and_r}
-use Rattle.trees.specs.ChainLaws.{Passed, chain_passed}
+use Rattle.trees.proofs.BoolLaws.{and_l, and_r}
+use Rattle.trees.proofs.ChainLaws.{Passed, chain_passed}
 use Rattle.runs.specs.Runs.{every, insert_run}
 use Rattle.runs.specs.Reports.{rule_of}
 use Rattle.ascii.specs.Ascii.{ascii}

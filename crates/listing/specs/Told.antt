@@ -2,7 +2,7 @@
 use Rattle.std.specs.Prelude.{ℕ, ◌≤◌, List, length, take}
 use Rattle.trees.specs.Checks.{most_samples, row_words}
 use Rattle.trees.specs.Valid.{Standard}
-use Rattle.runs.specs.CallLaws.{Kept}
+use Rattle.runs.specs.Formed.{Kept}
 use Rattle.judge.specs.declared.Answer.{Answer}
 use Rattle.judge.specs.declared.Answer.TheVariants.{Accepted, Refused as Answer-as-Refused}
 use Rattle.listing.specs.Listing.{Listed, refusal, tree, study_words, reports}

@@ -2,7 +2,7 @@
 ghost use Rattle.std.specs.Prelude.{◌≡◌, ◌+◌, ◌≤◌, length};
 ghost use Rattle.trees.specs.Lists.{tabulate};
 ghost use Rattle.trees.specs.Checks.{row_words};
-ghost use Rattle.runs.specs.CallLaws.{Kept};
+ghost use Rattle.runs.specs.Formed.{Kept};
 ghost use Rattle.runs.specs.Histories.{called};
 ghost use Rattle.judge.specs.Verdicts.{verdict};
 ghost use Rattle.file.specs.Files.{file_bytes};

@@ -12,13 +12,13 @@ use borrow.Author.Tests.{ltb-true}
 use Rattle.trees.specs.Rows.{nodes}
 use Rattle.trees.specs.Tables.{Tabled, table_words, entry, size_at, least_at, rank_at}
 use Rattle.trees.specs.Valid.{Standard}
-use Rattle.trees.specs.BoolLaws.{decide}
-use Rattle.trees.specs.NeverLaws.{side}
-use Rattle.trees.specs.FallsLaws.{standard_falls, few}
-use Rattle.trees.specs.TableLaws.{tabled_more, tabled_none}
+use Rattle.trees.proofs.BoolLaws.{decide}
+use Rattle.trees.proofs.NeverLaws.{side}
+use Rattle.trees.proofs.FallsLaws.{standard_falls, few}
+use Rattle.trees.proofs.TableLaws.{tabled_more, tabled_none}
 use Rattle.trees.specs.Mates.{mate_of, candidate, candidate_of, fitting, confirmed, from_end, Spread}
-use Rattle.trees.specs.LinearLaws.{rank_rises}
-use Rattle.trees.specs.MateLaws.{candidate_from, Reaches, candidate_reaches, candidate_mate}
+use Rattle.trees.proofs.LinearLaws.{rank_rises}
+use Rattle.trees.proofs.MateLaws.{candidate_from, Reaches, candidate_reaches, candidate_mate}
 
 -- the candidates of the nodes below a, and that every node of r below b ranks before all nodes of q that are left
 pub record Walking (n : ℕ) (q r : List ℕ) (a b : ℕ) (t : List ℕ) : Type 0 where

@@ -6,8 +6,8 @@ use Rattle.trees.specs.Rows.{nodes, group_at}
 use Rattle.trees.specs.Valid.{Standard}
 use Rattle.trees.specs.Tables.{table_words, entry}
 use Rattle.trees.specs.Merging.{flagged}
-use Rattle.trees.specs.NodeLaws.{node_distinct}
-use Rattle.trees.specs.FallsLaws.{few, standard_falls}
+use Rattle.trees.proofs.NodeLaws.{node_distinct}
+use Rattle.trees.proofs.FallsLaws.{few, standard_falls}
 use Rattle.merge.specs.Settling.{Settled}
 use Rattle.merge.specs.Carrying.{Apart, Carried}
 

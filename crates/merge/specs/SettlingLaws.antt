@@ -8,8 +8,8 @@ use Rattle.trees.specs.Tables.{entry}
 use Rattle.trees.specs.Merging.{flagged, merged, Mergeable}
 use Rattle.trees.specs.Lockstep.{Numbered}
 use Rattle.trees.specs.Climbing.{Raised}
-use Rattle.trees.specs.NodeLaws.{node_distinct}
-use Rattle.trees.specs.MergedRowLaws.{merged_place}
+use Rattle.trees.proofs.NodeLaws.{node_distinct}
+use Rattle.trees.proofs.MergedRowLaws.{merged_place}
 use Rattle.merge.specs.Settling.{Settled}
 
 -- the raised numbers of the first row settle its kept nodes in the merged row

@@ -5,7 +5,7 @@ use mathlib.Core.List.{List}
 use native.Mathlib.Omega.{arith}
 use lib.ListN.{length, set, length-set}
 use Rattle.trees.specs.Tables.{Tabled}
-use Rattle.trees.specs.TableLaws.{tabled_more, tabled_none}
+use Rattle.trees.proofs.TableLaws.{tabled_more, tabled_none}
 
 -- of the entries from a to below b those below v are done, and the table is as long as it should be
 pub record Filling (f : ℕ → ℕ) (a b words v : ℕ) (t : List ℕ) : Type 0 where

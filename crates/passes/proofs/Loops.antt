@@ -14,13 +14,13 @@ use Rattle.trees.specs.Rows.{nodes, parent, root_mark, group_at}
 use Rattle.trees.specs.Falls.{Falls, due}
 use Rattle.trees.specs.Tables.{Tabled, table_words, entry, one, seeded, Keys, size_at, least_at}
 use Rattle.trees.specs.Passes.{node, part, Stage, offset_at, Stepped, Offsets, Sized, Starts}
-use Rattle.trees.specs.BoolLaws.{decide}
-use Rattle.trees.specs.FallsLaws.{few}
-use Rattle.trees.specs.TurnLaws.{due_low, due_due, due_one, due_root}
-use Rattle.trees.specs.TableLaws.{Folds, adds, size_over}
-use Rattle.trees.specs.PassLaws.{node_child, node_parent, stage_start, stage_step, stage_end, part_size, size_join}
-use Rattle.trees.specs.PlaceLaws.{offset_fits}
-use Rattle.trees.specs.LinearLaws.{size_most}
+use Rattle.trees.proofs.BoolLaws.{decide}
+use Rattle.trees.proofs.FallsLaws.{few}
+use Rattle.trees.proofs.TurnLaws.{due_low, due_due, due_one, due_root}
+use Rattle.trees.proofs.TableLaws.{Folds, adds, size_over}
+use Rattle.trees.proofs.PassLaws.{node_child, node_parent, stage_start, stage_step, stage_end, part_size, size_join}
+use Rattle.trees.proofs.PlaceLaws.{offset_fits}
+use Rattle.trees.proofs.LinearLaws.{size_most}
 
 -- a pass after d steps, its table t
 pub record Passing (n : ℕ) (r : List ℕ) (op : ℕ → ℕ → ℕ) (e : ℕ) (k : ℕ → ℕ) (d : ℕ) (t : List ℕ) : Type 0 where

@@ -1,5 +1,6 @@
 // The report by the plain count. It promises what `arb::report` does; the bench times the two against each other.
 #![tactic(auto)]
+
 ghost use Rattle.std.specs.Prelude.{◌≡◌, length};
 ghost use Rattle.trees.specs.Checks.{accepted, row_words};
 ghost use Rattle.trees.specs.Valid.{Standard};

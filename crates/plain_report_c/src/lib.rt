@@ -1,5 +1,6 @@
 // The report by the plain count for C, which the bench times against `arb_report`; it promises what that does.
 #![tactic(auto)]
+
 ghost use Rattle.std.specs.Prelude.{◌≡◌};
 ghost use Rattle.runs.specs.Reports.{reported};
 ghost use Rattle.arb.specs.Packing.{packed};

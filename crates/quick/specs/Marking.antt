@@ -3,7 +3,7 @@ use Rattle.std.specs.Prelude.{ℕ, ◌<◌, ◌≡◌, List, true, not, eqb, len
 use Rattle.trees.specs.Lists.{range, count}
 use Rattle.trees.specs.Rows.{nodes, ends}
 use Rattle.trees.specs.Tables.{table_words, entry}
-use Rattle.trees.specs.ScanLaws.{ScanLeft}
+use Rattle.trees.proofs.ScanLaws.{ScanLeft}
 
 -- from each node that is marked the way up comes to the root
 pub record Marked (r marks : List ℕ) : Type 0 where

@@ -5,10 +5,10 @@ use Rattle.std.proofs.lemmas.Bool.{eqb-false}
 use Rattle.trees.specs.Lists.{zeros, range}
 use Rattle.trees.specs.Rows.{nodes, parent, root_mark, child_of, ends}
 use Rattle.trees.specs.Tables.{table_words, entry}
-use Rattle.trees.specs.BoolLaws.{decide}
-use Rattle.trees.specs.WayLaws.{ends_none, ends_step}
-use Rattle.trees.specs.ScanLaws.{ends_root, ends_parent}
-use Rattle.trees.specs.ListLaws.{length_zeros, get_or_zeros, range_in, weigh_one, weigh_apart}
+use Rattle.trees.proofs.BoolLaws.{decide}
+use Rattle.trees.proofs.WayLaws.{ends_none, ends_step}
+use Rattle.trees.proofs.ScanLaws.{ends_root, ends_parent}
+use Rattle.trees.proofs.ListLaws.{length_zeros, get_or_zeros, range_in, weigh_one, weigh_apart}
 use Rattle.quick.specs.Layout.{LaidOut}
 use Rattle.quick.specs.Marking.{Marked, Climbed, MarkedTo, unmarked}
 

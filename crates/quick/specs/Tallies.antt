@@ -2,7 +2,7 @@
 use Rattle.std.specs.Prelude.{ℕ, ◌<◌, ◌≡◌, List, Bool, eqb, length, get_or}
 use Rattle.trees.specs.Lists.{range, count}
 use Rattle.trees.specs.Tables.{table_words}
-use Rattle.trees.specs.ScanLaws.{CountLeft}
+use Rattle.trees.proofs.ScanLaws.{CountLeft}
 
 -- whether word u is z
 abbrev pub is_word : List ℕ → ℕ → ℕ → Bool

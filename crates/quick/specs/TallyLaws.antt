@@ -3,13 +3,13 @@ use Rattle.std.specs.Prelude.{ℕ, ◌+◌, ◌-◌, ◌≤◌, ◌<◌, ◌≡�
 use Rattle.std.proofs.Common.{sym, ◌∙◌, ⊎_elim, arith, length-set, get_or-set_same, get_or-set_other, eqb-true, eq-eqb, ne_eqb}
 use Rattle.std.proofs.Math.Nat.{sub-zero}
 use Rattle.std.proofs.lemmas.Bool.{eqb-false}
-use Rattle.trees.specs.ListLaws.{length_zeros, get_or_zeros, count_shift}
+use Rattle.trees.proofs.ListLaws.{length_zeros, get_or_zeros, count_shift}
 use Rattle.trees.specs.Lists.{zeros, count}
 use Rattle.trees.specs.Rows.{nodes, parent}
 use Rattle.trees.specs.Checks.{children}
 use Rattle.trees.specs.Tables.{Tabled, table_words}
-use Rattle.trees.specs.BoolLaws.{decide}
-use Rattle.trees.specs.ScanLaws.{CountLeft, count_start, count_yes, count_no, count_end}
+use Rattle.trees.proofs.BoolLaws.{decide}
+use Rattle.trees.proofs.ScanLaws.{CountLeft, count_start, count_yes, count_no, count_end}
 use Rattle.quick.specs.Tallies.{is_word, standing, Tallying}
 
 module _ (ws : List ℕ) (a b : ℕ) where

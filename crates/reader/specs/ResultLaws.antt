@@ -9,14 +9,14 @@ use Rattle.std.proofs.Math.Numerals.{add-one}
 use Rattle.std.proofs.Math.ListN.{get_or, set, take}
 use Rattle.std.proofs.lemmas.Bool.{not-false}
 use Rattle.trees.specs.Lists.{Place, nowhere, range, zeros, first}
-use Rattle.trees.specs.ListLaws.{first_end, first_hit, length_zeros}
+use Rattle.trees.proofs.ListLaws.{first_end, first_hit, length_zeros}
 use Rattle.trees.specs.Rows.{root_mark}
 use Rattle.trees.specs.Checks.{Verdict, accepted, refused, Check, ◌⊳◌, asked, fewest_samples, most_samples, row_words, check1, check3, outside}
 use Rattle.trees.specs.Tables.{table_words}
-use Rattle.trees.specs.ScanLaws.{ScanLeft, scan_pass}
-use Rattle.trees.specs.ChainLaws.{chain_stop, chain_go, chain_end, chain_passed, asked_passes, line_passes}
-use Rattle.trees.specs.CheckLaws.{outside_not}
-use Rattle.trees.specs.OutcomeLaws.{outcome_refused}
+use Rattle.trees.proofs.ScanLaws.{ScanLeft, scan_pass}
+use Rattle.trees.proofs.ChainLaws.{chain_stop, chain_go, chain_end, chain_passed, asked_passes, line_passes}
+use Rattle.trees.proofs.CheckLaws.{outside_not}
+use Rattle.trees.proofs.OutcomeLaws.{outcome_refused}
 use Rattle.trees.specs.Valid.{Valid, is_accepted}
 use Rattle.trees.specs.Numbering.{renumbered}
 use Rattle.judge.specs.declared.Answer.TheVariants.{Accepted, Refused}
@@ -30,7 +30,7 @@ use Rattle.lay.specs.Laying.{Link, sets, grow, tally, least, laid_row}
 use Rattle.lay.specs.LaidRow.{laid_valid}
 use Rattle.lay.specs.Faults.{or_at, below_place, due, bad_mark, mark_check}
 use Rattle.lay.specs.FaultLaws.{place18, laid_row_in}
-use Rattle.newick.specs.FaultLaws.{stands_exactly}
+use Rattle.newick.proofs.FaultLaws.{stands_exactly}
 use Rattle.lay.specs.Keeping.{kept_in}
 use Rattle.reader.specs.Steps.{ReadyAt, Told}
 use Rattle.reader.specs.Results.{Unread, checks_of, tree_of, Lies, left_in}

@@ -4,10 +4,10 @@ use Rattle.std.proofs.Common.{arith, sym, ap, subst, ◌∙◌, inl, inr, eqb-tr
 use Rattle.std.proofs.Math.Path.{refl}
 use Rattle.std.proofs.Math.ListN.{length}
 use Rattle.std.proofs.lemmas.Bool.{eqb-false}
-use Rattle.trees.specs.BoolLaws.{decide}
+use Rattle.trees.proofs.BoolLaws.{decide}
 use Rattle.newick.specs.Tree.{Tree, depth}
 use Rattle.newick.specs.Tree.Stack.{top}
-use Rattle.newick.specs.ByteLaws.{kind_all}
+use Rattle.newick.proofs.ByteLaws.{kind_all}
 use Rattle.newick.specs.Bytes.{semicolon_byte, kind_of, is_blank}
 use Rattle.newick.specs.Walk.{parsed, final, step, shut, next, last}
 use Rattle.newick.specs.Walk.State.{measured, done}

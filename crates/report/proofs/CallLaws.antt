@@ -4,14 +4,14 @@ use mathlib.Core.Path.{◌≡◌, sym, ap, ◌∙◌}
 use mathlib.Core.List.{List, [], ◌∷◌}
 use lib.Dec.{eqb}
 use Rattle.trees.specs.Checks.{accepted, Check, line, ◌⊳◌, asked}
-use Rattle.trees.specs.ChainLaws.{chain_stop, chain_go}
+use Rattle.trees.proofs.ChainLaws.{chain_stop, chain_go}
 use Rattle.trees.specs.RowCalls.{check3_both}
 use Rattle.trees.specs.Thresholds.{threshold}
 use Rattle.runs.specs.Words.{samples, in_force}
 use Rattle.runs.specs.Formed.{Formed}
 use Rattle.runs.specs.Calls.{check2}
 use Rattle.runs.specs.Reports.{check14, check16, report_formed_checks, report_checks, reported}
-use Rattle.runs.specs.ReportLaws.{reported_refused}
+use Rattle.runs.proofs.ReportLaws.{reported_refused}
 use Rattle.judge.specs.declared.Answer.{Answer}
 use Rattle.judge.specs.declared.Answer.TheVariants.{Accepted, Refused}
 use Rattle.judge.specs.Verdicts.{verdict}

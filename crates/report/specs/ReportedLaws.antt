@@ -1,17 +1,17 @@
 -- What a report answers where the study is known to be well formed, and the rows that it leaves where it is accepted. Assumes nothing.
 use Rattle.std.specs.Prelude.{ℕ, ◌≤◌, ◌<◌, ◌≡◌, List, length}
 use Rattle.trees.specs.Checks.{accepted, ◌⊳◌, row_words}
-use Rattle.trees.specs.ChainLaws.{chain_go}
+use Rattle.trees.proofs.ChainLaws.{chain_go}
 use Rattle.trees.specs.Reporting.{agreed, supports_of}
 use Rattle.trees.specs.Thresholds.{InRange, threshold}
 use Rattle.trees.specs.Majority.{majority}
 use Rattle.runs.specs.Words.{header_words, samples, in_force, runs}
 use Rattle.runs.specs.Formed.{Formed}
-use Rattle.runs.specs.FormedLaws.{formed_from}
-use Rattle.runs.specs.SlotLaws.{formed_long}
+use Rattle.runs.proofs.FormedLaws.{formed_from}
+use Rattle.runs.proofs.SlotLaws.{formed_long}
 use Rattle.runs.specs.Calls.{check2}
 use Rattle.runs.specs.Reports.{report_formed_checks, report_checks, reported}
-use Rattle.runs.specs.ReportLaws.{reported_rows, reported_accepts}
+use Rattle.runs.proofs.ReportLaws.{reported_rows, reported_accepts}
 use Rattle.count.specs.Studies.{Study}
 
 module _ (w : List ℕ) (p : ℕ) (a s : List ℕ) where

@@ -7,10 +7,10 @@ use Rattle.trees.specs.Checks.{row_words}
 use Rattle.trees.specs.Valid.{Standard}
 use Rattle.trees.specs.Tables.{Tabled, entry}
 use Rattle.trees.specs.Reporting.{support, supports_of}
-use Rattle.trees.specs.BoolLaws.{decide}
-use Rattle.trees.specs.RowLaws.{leaf_group, valid_rooted}
-use Rattle.trees.specs.NumberingLaws.{row_tree}
-use Rattle.trees.specs.ReportingLaws.{Runs, total_length, support_all, supports_length, supports_first, supports_node, supports_filler}
+use Rattle.trees.proofs.BoolLaws.{decide}
+use Rattle.trees.proofs.RowLaws.{leaf_group, valid_rooted}
+use Rattle.trees.proofs.NumberingLaws.{row_tree}
+use Rattle.trees.proofs.ReportingLaws.{Runs, total_length, support_all, supports_length, supports_first, supports_node, supports_filler}
 use Rattle.runs.specs.Words.{runs}
 use Rattle.count.specs.Studies.{Study}
 use Rattle.count.specs.StudyLaws.{study_length, study_valid}

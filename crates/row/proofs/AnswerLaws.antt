@@ -7,9 +7,9 @@ use Rattle.trees.specs.Checks.{accepted, ◌⊳◌, asked, row_words}
 use Rattle.trees.specs.Valid.{Valid}
 use Rattle.trees.specs.Numbering.{renumbered}
 use Rattle.trees.specs.RowCalls.{check3_both, renumber_checks, renumbering}
-use Rattle.trees.specs.ChainLaws.{asked_passes}
-use Rattle.trees.specs.RowCallLaws.{both_lengths, renumbering_accepts}
-use Rattle.trees.specs.OutcomeLaws.{outcome_accepted}
+use Rattle.trees.proofs.ChainLaws.{asked_passes}
+use Rattle.trees.proofs.RowCallLaws.{both_lengths, renumbering_accepts}
+use Rattle.trees.proofs.OutcomeLaws.{outcome_accepted}
 use Rattle.judge.specs.declared.Answer.{Answer}
 use Rattle.judge.specs.declared.Answer.TheVariants.{Accepted}
 use Rattle.judge.specs.Verdicts.{verdict}

@@ -53,3 +53,9 @@ pub record Formed (w : List ℕ) : Type 0 where
   pub rises : Rising 0 (runs w)
   pub stored : (run : Run) → Memᴰ run (runs w) → Stored (samples w) run
   pub exact : w ≡ encode (length w) (samples w) (runs w)
+
+-- a study that has become v is well formed, and has kept its length and n
+pub record Kept (len n : ℕ) (v : List ℕ) : Type 0 where
+  pub formed : Formed v
+  pub size : length v ≡ len
+  pub same : samples v ≡ n

@@ -2,7 +2,7 @@
 use Rattle.std.specs.Prelude.{ℕ, zero, suc, ◌+◌, ◌≤◌, ◌<◌, ◌≡◌, refl, Bool, true, false, List, [], ◌∷◌, length, drop, get_or, ltb}
 use Rattle.std.proofs.Common.{add-zero, add-suc, suc-add, add-one, arith, sym, ap, ◌∙◌, ⊎_elim, drop_of_length-le, length-drop, drop-cons, drop-drop, get_or-drop, ltb-true, ltb-false}
 use Rattle.std.proofs.lemmas.Bool.{false≢true}
-use Rattle.trees.specs.BoolLaws.{decide}
+use Rattle.trees.proofs.BoolLaws.{decide}
 use Rattle.newick.specs.Lead.{lead, one_more}
 use Rattle.newick.specs.Bytes.{kind_of}
 use Rattle.newick.specs.Walk.{State, walk, final, step}

@@ -5,7 +5,7 @@ use Rattle.std.proofs.Math.Path.{refl}
 use Rattle.newick.specs.Lead.{run, mark_of}
 use Rattle.newick.specs.Tree.{Tree, Forest, Stack}
 use Rattle.newick.specs.Tree.Tree.{leaf, pair}
-use Rattle.newick.specs.ByteLaws.{begun_zero, begun_other, digit_range}
+use Rattle.newick.proofs.ByteLaws.{begun_zero, begun_other, digit_range}
 use Rattle.newick.specs.Bytes.{colon_byte, opening_byte, point_byte, nought_byte, kind_of, is_blank, is_digit}
 use Rattle.newick.specs.Walk.{State, step, begun}
 use Rattle.newick.specs.Walk.State.{want, sample, closed, ended, measure, whole, point, part, measured}

@@ -2,13 +2,13 @@
 use Rattle.std.specs.Prelude.{ℕ, zero, suc, ◌+◌, ◌*◌, ◌-◌, ◌≤◌, ◌<◌, ◌≡◌, refl, Bool, true, false, List, [], ◌∷◌, length, drop, get_or, ltb}
 use Rattle.std.proofs.Common.{add-zero, add-suc, suc-add, add-one, arith, sym, ap, ◌∙◌, ⊎_elim, drop_of_length-le, drop-cons, drop-drop, ltb-true, ltb-false, lt-ltb, le-ltb}
 use Rattle.std.proofs.lemmas.Bool.{false≢true}
-use Rattle.trees.specs.BoolLaws.{decide}
+use Rattle.trees.proofs.BoolLaws.{decide}
 use Rattle.newick.specs.Lead.{lead, run, mark_of}
 use Rattle.newick.specs.Tree.{Tree, Forest, Stack, depth}
 use Rattle.newick.specs.Tree.Mark.{unmarked, marked}
 use Rattle.newick.specs.Tree.Tree.{leaf, pair}
 use Rattle.newick.specs.Tree.Stack.{opened}
-use Rattle.newick.specs.ByteLaws.{kind_all, kind_blank, kind_digit}
+use Rattle.newick.proofs.ByteLaws.{kind_all, kind_blank, kind_digit}
 use Rattle.ascii.specs.Decimal.{value_after}
 use Rattle.newick.specs.Bytes.{colon_byte, opening_byte, point_byte, nought_byte, kind_of, is_blank, is_digit}
 use Rattle.newick.specs.Bytes.Kind.{blank, digit}

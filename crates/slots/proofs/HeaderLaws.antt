@@ -13,7 +13,7 @@ use Rattle.runs.specs.Words.{header, header_words, slots, encode}
 use Rattle.runs.specs.Formed.{same_words}
 use native.Mathlib.Nat.{le_of_eq}
 use Rattle.trees.specs.Lists.{zeros}
-use Rattle.trees.specs.ListLaws.{length_zeros}
+use Rattle.trees.proofs.ListLaws.{length_zeros}
 
 -- ---- words compared with the first m of a study
 

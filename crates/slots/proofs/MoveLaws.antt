@@ -11,7 +11,7 @@ use lib.Seq.{drop_at, drop-drop, drop-paste, drop-set-lt, append_snoc, set_at}
 use lib.Seq.{get_or-take, get_or-drop, get_or-append-add, length-take-le, length_paste_head, slice-cons, slice_empty}
 use borrow.Rule.Slice.PartMut.{put_mid}
 use Rattle.trees.specs.Lists.{zeros}
-use Rattle.trees.specs.ListLaws.{length_zeros}
+use Rattle.trees.proofs.ListLaws.{length_zeros}
 use Rattle.runs.specs.Moves.{put_at, close_at}
 use Rattle.slots.specs.Slots.{raised}
 

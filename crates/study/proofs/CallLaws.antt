@@ -10,25 +10,25 @@ use Rattle.trees.specs.Lists.{nowhere}
 use Rattle.trees.specs.Checks.{Verdict, accepted, refused, Check, line, ◌⊳◌, asked, fewest_samples, most_samples}
 use Rattle.trees.specs.Checks.{check1, check3, row_checks, judge_checks, judged}
 use Rattle.trees.specs.Valid.{Valid}
-use Rattle.trees.specs.ChainLaws.{chain_append, passed_chain, chain_passed, chain_given, given_chain, asked_passes, accepted_other, line_passes}
-use Rattle.trees.specs.CheckLaws.{not_outside}
-use Rattle.trees.specs.ValidLaws.{judged_valid}
+use Rattle.trees.proofs.ChainLaws.{chain_append, passed_chain, chain_passed, chain_given, given_chain, asked_passes, accepted_other, line_passes}
+use Rattle.trees.proofs.CheckLaws.{not_outside}
+use Rattle.trees.proofs.ValidLaws.{judged_valid}
 use Rattle.runs.specs.Runs.{is_some, present, delete_run}
 use Rattle.runs.specs.Words.{samples, header_words, runs, encode}
 use Rattle.runs.specs.Formed.{well_formed, Formed}
 use Rattle.trees.specs.Outcomes.{Outcome, outcome}
 use Rattle.runs.specs.Calls.{check2, check4, check11, check12, check13, open_checks, add_formed_checks, add_checks, withdraw_formed_checks, withdraw_checks}
 use Rattle.runs.specs.Calls.{opened, runs_with, added, withdrawn}
-use Rattle.runs.specs.WordLaws.{capacity_room}
-use Rattle.runs.specs.CallLaws.{opened_accepts}
-use Rattle.runs.specs.AddLaws.{added_formed}
-use Rattle.runs.specs.WithdrawLaws.{withdrawn_formed}
-use Rattle.runs.specs.FormedLaws.{formed_to, formed_from}
+use Rattle.runs.proofs.WordLaws.{capacity_room}
+use Rattle.runs.proofs.CallLaws.{opened_accepts}
+use Rattle.runs.proofs.AddLaws.{added_formed}
+use Rattle.runs.proofs.WithdrawLaws.{withdrawn_formed}
+use Rattle.runs.proofs.FormedLaws.{formed_to, formed_from}
 use Rattle.judge.specs.declared.Answer.{Answer}
 use Rattle.judge.specs.declared.Answer.TheVariants.{Accepted, Refused}
 use Rattle.judge.specs.Verdicts.{verdict}
 use Rattle.runs.specs.Moves.{StandsAt, GoesBefore}
-use Rattle.runs.specs.MoveLaws.{stands_found, goes_absent}
+use Rattle.runs.proofs.MoveLaws.{stands_found, goes_absent}
 use Rattle.slots.specs.Slots.{Spotted}
 use Rattle.study.specs.Adding.{given_checks, added_valid}
 

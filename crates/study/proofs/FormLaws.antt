@@ -13,13 +13,13 @@ use borrow.Author.Tests.{leb-true, ne_eqb, not-true}
 use Rattle.trees.specs.Lists.{tabulate}
 use Rattle.trees.specs.Checks.{fewest_samples, most_samples, row_words, outside}
 use Rattle.trees.specs.Reporting.{Run}
-use Rattle.trees.specs.BoolLaws.{and_l, and_r, not_yes}
-use Rattle.trees.specs.CheckLaws.{outside_not}
+use Rattle.trees.proofs.BoolLaws.{and_l, and_r, not_yes}
+use Rattle.trees.proofs.CheckLaws.{outside_not}
 use Rattle.runs.specs.Runs.{every, rising}
 use Rattle.runs.specs.Words.{header, samples, in_force, header_words, row_offset, slot_words, slot_start, read_run, run_at, runs, most_runs, capacity}
 use Rattle.runs.specs.Formed.{same_words, is_stored, zero_from, headed, sized, well_formed}
-use Rattle.runs.specs.WordLaws.{capacity_short, capacity_most, capacity_room}
-use Rattle.runs.specs.FormedLaws.{formed_to}
+use Rattle.runs.proofs.WordLaws.{capacity_short, capacity_most, capacity_room}
+use Rattle.runs.proofs.FormedLaws.{formed_to}
 use Rattle.study.specs.Scans.{sizes_fit, follows, stored_from}
 
 -- ---- zeros to the end

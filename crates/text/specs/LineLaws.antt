@@ -4,7 +4,7 @@ use Rattle.std.proofs.Common.{ap, ◌∙◌, append_assoc, add-one, arith}
 use Rattle.trees.specs.Lists.{tabulate, range, filter}
 use Rattle.trees.specs.Groups.{Group, has}
 use Rattle.trees.specs.Rows.{parent, group_at}
-use Rattle.trees.specs.ListLaws.{range_cons, range_none}
+use Rattle.trees.proofs.ListLaws.{range_cons, range_none}
 use Rattle.ascii.specs.Decimal.{decimal}
 use Rattle.text.specs.Lines.{space, line_feed, spaced, line_of, parent_field, samples_of, node_line}
 

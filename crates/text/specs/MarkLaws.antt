@@ -6,9 +6,9 @@ use Rattle.std.proofs.lemmas.Bool.{eqb-false}
 use Rattle.trees.specs.Groups.{has}
 use Rattle.trees.specs.Rows.{nodes, parent, meets, group_at}
 use Rattle.trees.specs.Valid.{Standard}
-use Rattle.trees.specs.BoolLaws.{decide}
-use Rattle.trees.specs.WayLaws.{meets_refl}
-use Rattle.trees.specs.BelowLaws.{above_low, above_later, has_sample}
+use Rattle.trees.proofs.BoolLaws.{decide}
+use Rattle.trees.proofs.WayLaws.{meets_refl}
+use Rattle.trees.proofs.BelowLaws.{above_low, above_later, has_sample}
 use Rattle.text.specs.Marks.{Marked, parent_marked}
 
 module _ (n : ℕ) (row : List ℕ) (std : Standard n row) (v : ℕ) (a : n ≤ v) where

@@ -1,4 +1,5 @@
 -- Groups of samples, their order, and when two of them agree (RULES 3 and 4).
+use Rattle.std.specs.Prelude.{◌≡◌}
 use Rattle.std.specs.Prelude.{ℕ, suc, List, [], ◌∷◌, Bool, true, false, ◌&&◌, ◌||◌, not, eqb, ltb, length, get_or, replicate}
 use Rattle.trees.specs.Lists.{tabulate}
 
@@ -81,3 +82,22 @@ before g h = ltb (size h) (size g) || (eqb (size g) (size h) && list_first g h)
 unfoldable pub member : Group → List Group → Bool
 member g [] = false
 member g (h ∷ hs) = same g h || member g hs
+
+-- the i-th group of a list
+abbrev pub nth : List Group → ℕ → Group
+nth gs i = get_or gs i []
+
+
+-- every sample of g is in h
+abbrev pub Within : Group → Group → Type 0
+Within g h = (s : ℕ) → has g s ≡ true → has h s ≡ true
+
+-- no sample of g is in h
+abbrev pub Apart : Group → Group → Type 0
+Apart g h = (s : ℕ) → has g s ≡ true → has h s ≡ false
+
+-- two groups agree: one is within the other, or they are apart
+pub data Agree (g h : Group) : Type 0 where
+  under : Within g h → Agree g h
+  over : Within h g → Agree g h
+  aside : Apart g h → Agree g h

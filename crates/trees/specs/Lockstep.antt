@@ -5,7 +5,7 @@ use Rattle.trees.specs.Groups.{Group, lowest, same}
 use Rattle.trees.specs.Rows.{nodes, group_at}
 use Rattle.trees.specs.Numbering.{ordered}
 use Rattle.trees.specs.Tables.{Tabled, table_words, rank_step, rank_in}
-use Rattle.trees.specs.MemberLaws.{nth}
+use Rattle.trees.specs.Groups.{nth}
 use Rattle.trees.specs.Merging.{flagged, kept_from, merged}
 
 -- x is the first node from v on that is kept, or m where none is below m

@@ -5,7 +5,7 @@ use Rattle.trees.specs.Groups.{Group}
 use Rattle.trees.specs.Rows.{nodes, group_at}
 use Rattle.trees.specs.Valid.{In, Standard}
 use Rattle.trees.specs.Numbering.{ordered}
-use Rattle.trees.specs.GroupLaws.{Agree}
+use Rattle.trees.specs.Groups.{Agree}
 
 -- whether node v is kept, by a row's flags
 abbrev pub flagged : List Bool → ℕ → Bool

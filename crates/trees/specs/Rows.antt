@@ -1,4 +1,5 @@
 -- A row: its nodes, its parents (RULES 2) and its groups (RULES 3).
+use Rattle.std.specs.Prelude.{◌≡◌, ◌<◌}
 use Rattle.std.specs.Prelude.{ℕ, zero, suc, ◌-◌, List, Bool, false, ◌&&◌, ◌||◌, not, eqb, get_or}
 use Rattle.trees.specs.Lists.{tabulate}
 use Rattle.trees.specs.Groups.{Group, member}
@@ -44,3 +45,7 @@ inner n r = tabulate (nodes r - n) (group_at n r) n
 -- whether a run with this row holds a group (RULES 5.1)
 abbrev pub holds : ℕ → Group → List ℕ → Bool
 holds n g r = member g (groups n r)
+
+-- each parent of a node below m is the mark or a node below m
+abbrev pub Closed : ℕ → List ℕ → Type 0
+Closed m r = (v : ℕ) → v < m → child_of r root_mark v ≡ false → parent r v < m

@@ -12,10 +12,10 @@ use Rattle.trees.specs.Checks.{check1, check3, row_checks, judge_checks}
 use Rattle.trees.specs.RowCalls.{check3_both}
 use Rattle.trees.specs.Valid.{Valid}
 use Rattle.trees.specs.Outcomes.{Outcome}
-use Rattle.trees.specs.ChainLaws.{chain_passed, line_passes}
-use Rattle.trees.specs.CheckLaws.{samples_exactly}
-use Rattle.trees.specs.RowCallLaws.{both_lengths}
-use Rattle.trees.specs.ValidLaws.{passed_valid}
+use Rattle.trees.proofs.ChainLaws.{chain_passed, line_passes}
+use Rattle.trees.proofs.CheckLaws.{samples_exactly}
+use Rattle.trees.proofs.RowCallLaws.{both_lengths}
+use Rattle.trees.proofs.ValidLaws.{passed_valid}
 use Rattle.newick.specs.RowText.Wanted.{with_words}
 use Rattle.put.specs.Writing.{Put}
 use Rattle.judge.specs.declared.Answer.{Answer}

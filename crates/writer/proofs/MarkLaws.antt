@@ -10,7 +10,7 @@ use lib.Dec.{eqb, ltb}
 use lib.ListN.{length, get_or}
 use borrow.Author.Tests.{eqb-true, eqb-false}
 use Rattle.trees.specs.Rows.{parent, root_mark}
-use Rattle.trees.specs.BoolLaws.{or_cases, or_none}
+use Rattle.trees.proofs.BoolLaws.{or_cases, or_none}
 use Rattle.ascii.specs.Decimal.{decimal}
 use Rattle.newick.specs.RowText.{word_text, mark_text}
 use Rattle.writer.specs.Lengths.{wanted_by}

@@ -6,11 +6,11 @@ use native.Mathlib.Omega.{arith}
 use lib.ListN.{length, length-append}
 use Rattle.trees.specs.Rows.{nodes, parent, root_mark}
 use Rattle.trees.specs.Valid.{Valid}
-use Rattle.trees.specs.RowLaws.{one_root}
+use Rattle.trees.proofs.RowLaws.{one_root}
 use Rattle.put.specs.Writing.{Put}
 use Rattle.put.specs.WritingLaws.{put_then, put_length}
 use Rattle.newick.specs.RowText.{Wanted, root_of, written}
-use Rattle.newick.specs.ChildLaws.{root_at}
+use Rattle.newick.proofs.ChildLaws.{root_at}
 use Rattle.chains.specs.Kids.{Kids}
 use Rattle.newick.specs.Bytes.{semicolon_byte}
 use Rattle.writer.specs.Nesting.{nest_text, kids_in}

@@ -12,18 +12,18 @@ use borrow.Author.Tests.{ltb-true, ltb-false, eqb-true, eqb-false, eq-eqb, lt-lt
 use Rattle.trees.specs.Lists.{range, weigh, count, nowhere}
 use Rattle.trees.specs.Rows.{nodes, parent, root_mark, child_of, meets}
 use Rattle.trees.specs.Valid.{Valid}
-use Rattle.trees.specs.BoolLaws.{and_l, and_r, not_yes, decide}
-use Rattle.trees.specs.ListLaws.{in-range, range_cons, range_none, weigh_none}
-use Rattle.trees.specs.WayLaws.{meets_refl}
-use Rattle.trees.specs.RowLaws.{no_leaf_above, valid_rooted}
+use Rattle.trees.proofs.BoolLaws.{and_l, and_r, not_yes, decide}
+use Rattle.trees.proofs.ListLaws.{in-range, range_cons, range_none, weigh_none}
+use Rattle.trees.proofs.WayLaws.{meets_refl}
+use Rattle.trees.proofs.RowLaws.{no_leaf_above, valid_rooted}
 use Rattle.ascii.specs.Decimal.{decimal}
 use Rattle.ascii.specs.DecimalLaws.{decimal_long}
 use Rattle.newick.specs.RowText.{Wanted, children_of, commas, listed, word_text, mark_text, node_text, root_of, written, check_room}
 use Rattle.newick.specs.RowText.Wanted.{plain, with_words}
-use Rattle.newick.specs.ListedLaws.{count_unique}
-use Rattle.newick.specs.ChildLaws.{child_once, not_below}
-use Rattle.newick.specs.ChildrenLaws.{in_child, count_child, length_child}
-use Rattle.newick.specs.ChildLaws.{pairs_at, pairs_fall, pairs_some, pairs_few, root_at, root_above}
+use Rattle.newick.proofs.ListedLaws.{count_unique}
+use Rattle.newick.proofs.ChildLaws.{child_once, not_below}
+use Rattle.newick.proofs.ChildrenLaws.{in_child, count_child, length_child}
+use Rattle.newick.proofs.ChildLaws.{pairs_at, pairs_fall, pairs_some, pairs_few, root_at, root_above}
 use Rattle.newick.specs.Bytes.{opening_byte, closing_byte, semicolon_byte}
 use Rattle.writer.specs.SumLaws.{total, total_same, weigh_at, sums_swap}
 use Rattle.writer.specs.Lengths.{bytes_of, bytes_from, SmallWords, word_most, sample_most, node_most, text_most, BytesLeft}

@@ -11,13 +11,13 @@ use Rattle.trees.specs.Lists.{range}
 use Rattle.trees.specs.Rows.{nodes, parent, root_mark, child_of}
 use Rattle.trees.specs.Valid.{Valid}
 use Rattle.trees.specs.Tables.{table_words}
-use Rattle.trees.specs.BoolLaws.{or_cases, or_none, decide}
-use Rattle.trees.specs.ListLaws.{length_range, count_le_length}
-use Rattle.trees.specs.RowLaws.{no_mark, valid_rooted}
+use Rattle.trees.proofs.BoolLaws.{or_cases, or_none, decide}
+use Rattle.trees.proofs.ListLaws.{length_range, count_le_length}
+use Rattle.trees.proofs.RowLaws.{no_mark, valid_rooted}
 use Rattle.ascii.specs.Decimal.{decimal}
 use Rattle.newick.specs.RowText.{Wanted, children_of, commas, listed, mark_text, node_text, root_of, written}
-use Rattle.newick.specs.ChildLaws.{pairs_at, pairs_fall, pairs_some, pairs_few, root_at}
-use Rattle.newick.specs.ChildrenLaws.{in_child, length_child}
+use Rattle.newick.proofs.ChildLaws.{pairs_at, pairs_fall, pairs_some, pairs_few, root_at}
+use Rattle.newick.proofs.ChildrenLaws.{in_child, length_child}
 use Rattle.chains.specs.Kids.{Chain, Kids}
 use Rattle.chains.specs.Kids.Chain.{last, then}
 use Rattle.newick.specs.Bytes.{opening_byte, closing_byte, semicolon_byte}

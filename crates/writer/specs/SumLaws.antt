@@ -3,7 +3,7 @@ use Rattle.std.specs.Prelude.{ℕ, ◌+◌, ◌*◌, ◌≡◌, refl, ◌⊎◌,
 use Rattle.std.proofs.Common.{inl, inr, arith, eqb-true, eq-eqb}
 use mathlib.Core.List.{List, [], ◌∷◌, Memᴰ}
 use Rattle.trees.specs.Lists.{weigh, count}
-use Rattle.trees.specs.BoolLaws.{decide}
+use Rattle.trees.proofs.BoolLaws.{decide}
 
 -- what all of a list weigh together
 abbrev pub total : (ℕ → ℕ) → List ℕ → ℕ

@@ -2,7 +2,7 @@
 use Rattle.std.specs.Prelude.{ℕ, ◌≤◌, ◌<◌, ◌≡◌, refl, List, [], ◌∷◌, ◌++◌, length, drop}
 use Rattle.std.proofs.Common.{◌∙◌, lt-ltb, le-ltb}
 use Rattle.trees.specs.Checks.{Verdict, accepted, refused, wrote, Check, ◌⊳◌, check1, row_checks}
-use Rattle.trees.specs.ChainLaws.{chain_append, chain_given, given_chain, chain_passed, passed_chain, accepted_other}
+use Rattle.trees.proofs.ChainLaws.{chain_append, chain_given, given_chain, chain_passed, passed_chain, accepted_other}
 use Rattle.newick.specs.RowText.{Wanted, check3_wanted, check_room, written, write_checks, writing}
 use Rattle.writer.specs.declared.calls.Written.{Written}
 use Rattle.writer.specs.declared.calls.Written.TheVariants.{Length, Refused}

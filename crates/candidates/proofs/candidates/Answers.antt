@@ -1,7 +1,7 @@
 -- `candidates::candidates` takes run after run in, from the bare row on. Assumes nothing.
 use mathlib.Core.Path.{◌≡◌, refl, ◌∙◌}
 use Rattle.trees.specs.Tables.{table_words}
-use Rattle.trees.specs.ListLaws.{get_or_zeros}
+use Rattle.trees.proofs.ListLaws.{get_or_zeros}
 use Rattle.count.specs.StudyLaws.{study_least, study_most, study_few}
 use Rattle.candidates.specs.CandidateLaws.{candidates_start}
 use native.Mathlib.Omega.{arith}

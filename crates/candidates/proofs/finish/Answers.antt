@@ -1,6 +1,6 @@
 -- `candidates::finish` counts the holders of the candidates, and keeps those that are shown. Assumes nothing.
 use mathlib.Core.Path.{refl}
-use Rattle.trees.specs.FallsLaws.{standard_falls, few}
+use Rattle.trees.proofs.FallsLaws.{standard_falls, few}
 use Rattle.count.specs.StudyLaws.{study_few}
 use Rattle.candidates.specs.CandidateLaws.{study_mergeable, study_rows}
 use native.Mathlib.Omega.{arith}

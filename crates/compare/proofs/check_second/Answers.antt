@@ -1,7 +1,7 @@
 -- `compare::check_second` answers the checks of the second row: those of a row alone, with the place moved. Assumes nothing.
 use mathlib.Core.Path.{sym, ap, ◌∙◌}
 use native.Mathlib.Omega.{arith}
-use Rattle.trees.specs.PlacedLaws.{row_place}
+use Rattle.trees.proofs.PlacedLaws.{row_place}
 use Rattle.judge.specs.Verdicts.{verdict}
 use Rattle.compare.proofs.AnswerLaws.{place_moved}
 use Rattle.compare.proofs.check_second.Goals as goal

@@ -6,7 +6,7 @@ use native.Mathlib.Omega.{arith}
 use lib.ListN.{get_or}
 use borrow.Author.Tests.{eq-eqb, ne_eqb}
 use Rattle.trees.specs.Mates.{no_mate}
-use Rattle.trees.specs.ScanLaws.{count_start, count_yes, count_no, count_end}
+use Rattle.trees.proofs.ScanLaws.{count_start, count_yes, count_no, count_end}
 use Rattle.compare.proofs.mated.Goals.{then-mate-v-ne-NO_MATE, else-mate-v-ne-NO_MATE}
 use Rattle.compare.proofs.mated.Goals as goal
 

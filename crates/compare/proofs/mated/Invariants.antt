@@ -4,7 +4,7 @@ use mathlib.Core.Bool.{not}
 use lib.Dec.{eqb}
 use lib.ListN.{get_or}
 use Rattle.trees.specs.Mates.{no_mate}
-use Rattle.trees.specs.ScanLaws.{CountLeft}
+use Rattle.trees.proofs.ScanLaws.{CountLeft}
 use Rattle.compare.proofs.mated.Given as goal
 
 abbrev pub invariant-loop-v : goal.invariant-loop-v

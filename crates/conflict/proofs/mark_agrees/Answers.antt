@@ -2,7 +2,7 @@
 use mathlib.Core.Path.{◌≡◌}
 use native.Mathlib.Omega.{arith}
 use lib.ListN.{length-set}
-use Rattle.trees.specs.TableLaws.{flags_none, flags_more}
+use Rattle.trees.proofs.TableLaws.{flags_none, flags_more}
 use Rattle.conflict.proofs.mark_agrees.Goals as goal
 
 pub loop-v-init : goal.loop-v-init

@@ -5,7 +5,7 @@ use native.Mathlib.Omega.{arith}
 use lib.Dec.{eqb}
 use lib.ListN.{length-set}
 use Rattle.trees.specs.Tables.{table_words, entry}
-use Rattle.trees.specs.TableLaws.{flags_none, flags_more}
+use Rattle.trees.proofs.TableLaws.{flags_none, flags_more}
 use Rattle.conflict.proofs.mark_held.Goals.{After-wide}
 use Rattle.conflict.proofs.mark_held.Goals as goal
 

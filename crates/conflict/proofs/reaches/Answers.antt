@@ -3,8 +3,8 @@ use Prim.Native.Nat.{ℕ}
 use mathlib.Core.Path.{refl}
 use lib.ListN.{length-replicate}
 use Rattle.trees.specs.Tables.{table_words}
-use Rattle.trees.specs.FallsLaws.{standard_falls}
-use Rattle.trees.specs.PlaceLaws.{place_keys}
+use Rattle.trees.proofs.FallsLaws.{standard_falls}
+use Rattle.trees.proofs.PlaceLaws.{place_keys}
 use Rattle.conflict.specs.GatherLaws.{gauged_reached}
 use Rattle.conflict.proofs.reaches.Goals as goal
 

@@ -1,6 +1,6 @@
 -- `conflict::sides` marks both by what is reached. Assumes nothing.
 use native.Mathlib.Omega.{arith}
-use Rattle.trees.specs.FallsLaws.{standard_falls, few}
+use Rattle.trees.proofs.FallsLaws.{standard_falls, few}
 use Rattle.conflict.specs.GatherLaws.{reached_low, reached_agrees, reached_holds}
 use Rattle.conflict.proofs.sides.Goals as goal
 

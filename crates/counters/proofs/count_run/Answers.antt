@@ -1,5 +1,5 @@
 -- `counters::count_run` turns the counters by what the run holds and what it agrees with. Assumes nothing.
-use Rattle.trees.specs.FallsLaws.{standard_falls, few}
+use Rattle.trees.proofs.FallsLaws.{standard_falls, few}
 use Rattle.counters.specs.Rounds.{weight}
 use Rattle.counters.specs.RoundLaws.{turned_run}
 use native.Mathlib.Omega.{arith}

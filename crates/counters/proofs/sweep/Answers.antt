@@ -5,7 +5,7 @@ use lib.Dec.{ltb}
 use lib.ListN.{length-set}
 use native.Mathlib.Omega.{arith}
 use Rattle.trees.specs.Merging.{flagged}
-use Rattle.trees.specs.TableLaws.{flags_none, flags_more, remade_start, remade_more}
+use Rattle.trees.proofs.TableLaws.{flags_none, flags_more, remade_start, remade_more}
 use Rattle.counters.specs.Rounds.{turned, turned_in, weight}
 use Rattle.counters.proofs.sweep.Goals as goal
 

@@ -3,7 +3,7 @@ use Prim.Native.Nat.{◌≤◌}
 use mathlib.Core.Path.{refl, sym}
 use native.Mathlib.Omega.{arith}
 use lib.ListN.{length}
-use Rattle.trees.specs.CheckLaws.{outside_not}
+use Rattle.trees.proofs.CheckLaws.{outside_not}
 use Rattle.file.specs.Files.{head_bytes, most_bytes}
 use Rattle.file.specs.FileLaws.{bad_far, bad_near}
 use Rattle.file.proofs.is_bad.Goals.{Else-len}

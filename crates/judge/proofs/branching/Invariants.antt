@@ -3,7 +3,7 @@ use Prim.Native.Nat.{◌-◌}
 use lib.Dec.{ltb}
 use Rattle.trees.specs.Rows.{nodes}
 use Rattle.trees.specs.Checks.{children, fewest_children}
-use Rattle.trees.specs.ScanLaws.{ScanLeft}
+use Rattle.trees.proofs.ScanLaws.{ScanLeft}
 use Rattle.judge.proofs.branching.Given as goal
 
 abbrev pub invariant-loop-v : goal.invariant-loop-v

@@ -1,7 +1,7 @@
 -- `judge::children` counts the children: those found, and those among the nodes that are left, are all of them. Assumes nothing.
 use Prim.Native.Nat.{◌-◌}
 use Rattle.trees.specs.Rows.{nodes, child_of}
-use Rattle.trees.specs.ScanLaws.{CountLeft}
+use Rattle.trees.proofs.ScanLaws.{CountLeft}
 use Rattle.judge.proofs.children.Given as goal
 
 abbrev pub invariant-loop-u : goal.invariant-loop-u

@@ -2,7 +2,7 @@
 use Prim.Native.Nat.{◌-◌}
 use mathlib.Core.Bool.{not}
 use Rattle.trees.specs.Rows.{nodes, ends}
-use Rattle.trees.specs.ScanLaws.{ScanLeft}
+use Rattle.trees.proofs.ScanLaws.{ScanLeft}
 use Rattle.judge.proofs.climbing.Given as goal
 
 abbrev pub invariant-loop-start : goal.invariant-loop-start

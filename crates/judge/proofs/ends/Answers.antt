@@ -1,9 +1,9 @@
 -- `judge::ends` follows the parents: at each step the way that is left ends exactly if the whole way does. Assumes nothing.
-use Rattle.trees.specs.ScanLaws.{ends_root, ends_parent}
+use Rattle.trees.proofs.ScanLaws.{ends_root, ends_parent}
 use mathlib.Core.Path.{◌≡◌, sym, ◌∙◌}
 use native.Mathlib.Omega.{arith}
 use borrow.Author.Tests.{eq-eqb, ne_eqb}
-use Rattle.trees.specs.WayLaws.{ends_none}
+use Rattle.trees.proofs.WayLaws.{ends_none}
 use borrow.Author.Rules.{rules}
 use Rattle.judge.proofs.ends.Goals as goal
 

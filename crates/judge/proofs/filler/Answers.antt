@@ -1,7 +1,7 @@
 -- `judge::filler` answers check 8: the filler passed is 0, so the words that are left decide. Assumes nothing.
 use native.Mathlib.Omega.{arith}
 use borrow.Author.Tests.{eq-eqb, ne_eqb}
-use Rattle.trees.specs.ScanLaws.{scan_start, scan_pass, scan_hit, scan_end}
+use Rattle.trees.proofs.ScanLaws.{scan_start, scan_pass, scan_hit, scan_end}
 use Rattle.judge.proofs.filler.Goals as goal
 
 pub loop-w-init : goal.loop-w-init

@@ -5,7 +5,7 @@ use lib.Dec.{eqb}
 use lib.ListN.{length, get_or}
 use Rattle.trees.specs.Rows.{nodes}
 use Rattle.trees.specs.Checks.{row_words}
-use Rattle.trees.specs.ScanLaws.{ScanLeft}
+use Rattle.trees.proofs.ScanLaws.{ScanLeft}
 use Rattle.judge.proofs.filler.Given as goal
 
 abbrev pub invariant-loop-w : goal.invariant-loop-w

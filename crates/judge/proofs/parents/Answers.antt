@@ -2,7 +2,7 @@
 use mathlib.Core.Path.{refl, sym, ◌∙◌}
 use native.Mathlib.Omega.{arith}
 use Rattle.trees.specs.Checks.{stray}
-use Rattle.trees.specs.ScanLaws.{scan_start, scan_pass, scan_hit, scan_end}
+use Rattle.trees.proofs.ScanLaws.{scan_start, scan_pass, scan_hit, scan_end}
 use Rattle.judge.proofs.parents.Goals as goal
 
 pub loop-v-init : goal.loop-v-init

@@ -2,7 +2,7 @@
 use Prim.Native.Nat.{◌-◌}
 use Rattle.trees.specs.Rows.{nodes, parent}
 use Rattle.trees.specs.Checks.{stray}
-use Rattle.trees.specs.ScanLaws.{ScanLeft}
+use Rattle.trees.proofs.ScanLaws.{ScanLeft}
 use Rattle.judge.proofs.parents.Given as goal
 
 abbrev pub invariant-loop-v : goal.invariant-loop-v

@@ -1,6 +1,6 @@
 -- `mates::advance` meets its contract: the nodes from x on decide. Assumes nothing.
 use Rattle.trees.specs.Tables.{rank_in}
-use Rattle.trees.specs.MateLaws.{candidate_end, candidate_hit, candidate_pass}
+use Rattle.trees.proofs.MateLaws.{candidate_end, candidate_hit, candidate_pass}
 use native.Mathlib.Numerals.{add-one}
 use native.Mathlib.Omega.{arith}
 use mathlib.Core.Path.{refl, sym, ◌∙◌}

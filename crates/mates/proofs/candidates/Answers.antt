@@ -1,13 +1,13 @@
 -- `mates::candidates` meets its contract: all before a have theirs, and the walk is at b. Assumes nothing.
 use Rattle.trees.specs.Mates.{candidate}
 use mathlib.Core.Path.{ap, ◌≡◌, ◌∙◌}
-use Rattle.trees.specs.MateLaws.{candidate_reaches, candidate_same}
+use Rattle.trees.proofs.MateLaws.{candidate_reaches, candidate_same}
 use Prim.Native.Nat.{ℕ}
 use Rattle.mates.proofs.Walks.{walking_start, walking_step}
 use Rattle.trees.specs.Rows.{nodes}
 use Rattle.trees.specs.Tables.{rank_at}
-use Rattle.trees.specs.FallsLaws.{few, standard_falls}
-use Rattle.trees.specs.LinearLaws.{ranked_most, rank_is}
+use Rattle.trees.proofs.FallsLaws.{few, standard_falls}
+use Rattle.trees.proofs.LinearLaws.{ranked_most, rank_is}
 use native.Mathlib.Omega.{arith}
 use Rattle.mates.proofs.candidates.Goals.{After-advance-b}
 use Rattle.mates.proofs.candidates.Goals as goal

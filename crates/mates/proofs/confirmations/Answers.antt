@@ -1,7 +1,7 @@
 -- `mates::confirmations` meets its contract: all before a have their mates, the others their candidates. Assumes nothing.
 use Rattle.mates.proofs.Walks.{confirming_step}
 use Rattle.trees.specs.Rows.{nodes}
-use Rattle.trees.specs.TableLaws.{tabled_none}
+use Rattle.trees.proofs.TableLaws.{tabled_none}
 use native.Mathlib.Omega.{arith}
 use mathlib.Core.Path.{◌≡◌}
 use Rattle.mates.proofs.confirmations.Goals as goal

@@ -1,6 +1,6 @@
 -- `mates::mates` meets its contract. Assumes nothing.
-use Rattle.trees.specs.FallsLaws.{standard_falls}
-use Rattle.trees.specs.PlaceLaws.{place_keys}
+use Rattle.trees.proofs.FallsLaws.{standard_falls}
+use Rattle.trees.proofs.PlaceLaws.{place_keys}
 use lib.ListN.{length-replicate}
 use Prim.Native.Nat.{ℕ}
 use Rattle.mates.proofs.mates.Goals as goal

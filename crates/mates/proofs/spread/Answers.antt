@@ -1,7 +1,7 @@
 -- `mates::spread` meets its contract. Assumes nothing.
 use Rattle.trees.specs.Tables.{entry}
 use Rattle.trees.specs.Mates.{from_end}
-use Rattle.trees.specs.TableLaws.{end_keys, tabled_least}
+use Rattle.trees.proofs.TableLaws.{end_keys, tabled_least}
 use Rattle.mates.proofs.spread.Goals as goal
 
 pub least-requires-2 : goal.least-requires-2

@@ -1,5 +1,5 @@
 -- `mates::tables` meets its contract. Assumes nothing.
-use Rattle.trees.specs.FallsLaws.{standard_falls}
+use Rattle.trees.proofs.FallsLaws.{standard_falls}
 use lib.ListN.{length-replicate}
 use Prim.Native.Nat.{ℕ}
 use Rattle.mates.proofs.tables.Goals as goal

@@ -1,6 +1,6 @@
 -- `merge::climb` climbs: from each node passed it comes to the same node as from v. Assumes nothing.
 use Rattle.trees.specs.Tables.{entry}
-use Rattle.trees.specs.ClimbingLaws.{climb_on, climb_lower, climb_stop}
+use Rattle.trees.proofs.ClimbingLaws.{climb_on, climb_lower, climb_stop}
 use Rattle.trees.specs.Rows.{nodes}
 use native.Mathlib.Omega.{arith}
 use mathlib.Core.Path.{refl, sym, ◌∙◌}

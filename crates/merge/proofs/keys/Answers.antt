@@ -1,6 +1,6 @@
 -- `merge::keys` makes both tables by one call, the offsets to be thrown away. Assumes nothing.
 use mathlib.Core.Path.{refl}
-use Rattle.trees.specs.FallsLaws.{standard_falls}
+use Rattle.trees.proofs.FallsLaws.{standard_falls}
 use Rattle.merge.proofs.keys.Goals as goal
 
 pub ranks-requires : goal.ranks-requires

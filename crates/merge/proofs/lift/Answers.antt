@@ -1,6 +1,6 @@
 -- `merge::lift` moves the place to where climbing comes. Assumes nothing.
 use Prim.Native.Nat.{◌<◌}
-use Rattle.trees.specs.ClimbingLaws.{climb_range}
+use Rattle.trees.proofs.ClimbingLaws.{climb_range}
 use Rattle.trees.specs.Tables.{entry, table_words}
 use Rattle.trees.specs.Rows.{nodes}
 use native.Mathlib.Omega.{arith}

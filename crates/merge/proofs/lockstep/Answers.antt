@@ -1,7 +1,7 @@
 -- `merge::lockstep` walks over both rows in lockstep. Assumes nothing.
 use Rattle.trees.specs.Tables.{table_words}
-use Rattle.trees.specs.LinearLaws.{ranked_most}
-use Rattle.trees.specs.LockstepLaws.{lock_start, lock_step, lock_end, lock_on, first_taken, second_taken, number_fits}
+use Rattle.trees.proofs.LinearLaws.{ranked_most}
+use Rattle.trees.proofs.LockstepLaws.{lock_start, lock_step, lock_end, lock_on, first_taken, second_taken, number_fits}
 use native.Mathlib.Omega.{arith}
 use Prim.Native.Nat.{◌<◌}
 use Rattle.merge.proofs.lockstep.Goals.{In-loop-x}

@@ -1,7 +1,7 @@
 -- `merge::merge_carried` merges, and carries the table along. Assumes nothing.
 use native.Mathlib.Omega.{arith}
-use Rattle.trees.specs.FallsLaws.{standard_falls, few}
-use Rattle.trees.specs.MergingLaws.{merged_standard}
+use Rattle.trees.proofs.FallsLaws.{standard_falls, few}
+use Rattle.trees.proofs.MergingLaws.{merged_standard}
 use Rattle.merge.specs.CarryingLaws.{settled_apart}
 use Rattle.merge.proofs.merge_carried.Goals as goal
 

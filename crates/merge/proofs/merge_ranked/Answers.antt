@@ -1,7 +1,7 @@
 -- `merge::merge_ranked` writes the row of the merged groups; the first row's numbers stay. Assumes nothing.
 use mathlib.Core.Path.{refl, ◌∙◌}
 use Rattle.trees.specs.Lockstep.{blank}
-use Rattle.trees.specs.MergedRowLaws.{merged_climbable, merged_row}
+use Rattle.trees.proofs.MergedRowLaws.{merged_climbable, merged_row}
 use Rattle.merge.specs.SettlingLaws.{merged_settled}
 use Rattle.merge.proofs.merge_ranked.Goals as goal
 

@@ -1,7 +1,7 @@
 -- `merge::parents` goes from the last number to the first: those passed have their parents. Assumes nothing.
 use mathlib.Core.Path.{◌∙◌}
 use Prim.Native.Nat.{◌<◌}
-use Rattle.trees.specs.ClimbingLaws.{placed_start, climbs_start, climbs_sample, climbs_step, climbs_end}
+use Rattle.trees.proofs.ClimbingLaws.{placed_start, climbs_start, climbs_sample, climbs_step, climbs_end}
 use native.Mathlib.Omega.{arith}
 use Rattle.merge.proofs.parents.Goals as goal
 

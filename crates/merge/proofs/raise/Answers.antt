@@ -1,7 +1,7 @@
 -- `merge::raise` goes up from the root: the nodes passed have the numbers of their nearest kept nodes. Assumes nothing.
 use Rattle.trees.specs.Tables.{table_words}
-use Rattle.trees.specs.FallsLaws.{standard_falls}
-use Rattle.trees.specs.ClimbingLaws.{raising_start, raising_step, raising_end}
+use Rattle.trees.proofs.FallsLaws.{standard_falls}
+use Rattle.trees.proofs.ClimbingLaws.{raising_start, raising_step, raising_end}
 use native.Mathlib.Omega.{arith}
 use Prim.Native.Nat.{◌<◌}
 use Rattle.merge.proofs.raise.Goals.{After-parent-p}

@@ -3,7 +3,7 @@ use Rattle.trees.specs.Tables.{table_words}
 use Prim.Native.Nat.{◌-◌, ◌<◌}
 use borrow.Author.Tests.{eq-eqb, ne_eqb, lt-ltb, le-ltb}
 use Rattle.trees.specs.Climbing.{word_of}
-use Rattle.trees.specs.FallsLaws.{standard_falls}
+use Rattle.trees.proofs.FallsLaws.{standard_falls}
 use native.Mathlib.Omega.{arith}
 use Rattle.merge.proofs.word.Goals.{After-larger-arg-1, After-parent-q, After-way_told-2-1}
 use Rattle.merge.proofs.word.Goals as goal

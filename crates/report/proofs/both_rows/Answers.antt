@@ -8,7 +8,7 @@ use Rattle.trees.specs.Valid.{Standard}
 use Rattle.trees.specs.Reporting.{agreed}
 use Rattle.trees.specs.Thresholds.{InRange}
 use Rattle.trees.specs.Majority.{majority}
-use Rattle.trees.specs.FallsLaws.{few, standard_falls}
+use Rattle.trees.proofs.FallsLaws.{few, standard_falls}
 use Rattle.runs.specs.Words.{runs}
 use Rattle.count.specs.Studies.{Study}
 use Rattle.count.specs.StudyLaws.{study_few, study_agreed}

@@ -1,5 +1,5 @@
 -- `report::formed_checks` answers the first of its checks that applies. Assumes nothing.
-use Rattle.runs.specs.SlotLaws.{formed_long}
+use Rattle.runs.proofs.SlotLaws.{formed_long}
 use Rattle.report.proofs.CallLaws.{words_stop, threshold_stops, threshold_goes}
 use Rattle.report.proofs.formed_checks.Goals as goal
 

@@ -3,7 +3,7 @@ use Prim.Native.Nat.{◌<◌}
 use mathlib.Core.Path.{◌≡◌}
 use native.Mathlib.Omega.{arith}
 use Rattle.trees.specs.Tables.{table_words, entry}
-use Rattle.trees.specs.FallsLaws.{few}
+use Rattle.trees.proofs.FallsLaws.{few}
 use Rattle.conflict.specs.PathLaws.{paths_begin, paths_on}
 use Rattle.conflict.proofs.paths.extend.Goals.{After-parent-p}
 use Rattle.conflict.proofs.paths.extend.Goals as goal

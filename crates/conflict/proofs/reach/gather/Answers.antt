@@ -1,5 +1,5 @@
 -- `conflict::reach::gather` is the pass that joins. Assumes nothing.
-use Rattle.trees.specs.FallsLaws.{standard_falls, few}
+use Rattle.trees.proofs.FallsLaws.{standard_falls, few}
 use Rattle.conflict.specs.GatherLaws.{gathered_start, next_nodes, gathered_step, gathered_end}
 use native.Mathlib.Numerals.{add-one}
 use native.Mathlib.Omega.{arith}

@@ -2,7 +2,7 @@
 use mathlib.Core.Path.{◌≡◌, ◌∙◌, ap}
 use native.Mathlib.Omega.{arith}
 use Rattle.trees.specs.Tables.{entry}
-use Rattle.trees.specs.FallsLaws.{standard_falls, few}
+use Rattle.trees.proofs.FallsLaws.{standard_falls, few}
 use Rattle.conflict.specs.Paths.{Onward}
 use Rattle.conflict.specs.GatherLaws.{levelled_stay, levelled_up}
 use Rattle.conflict.proofs.reach.level.Goals.{After-wide-then-x-y, Then-x-y}

@@ -4,7 +4,7 @@ use mathlib.Core.Path.{◌≡◌, sym, ap}
 use native.Mathlib.Omega.{arith}
 use Rattle.trees.specs.Rows.{nodes, parent}
 use Rattle.trees.specs.Tables.{entry}
-use Rattle.trees.specs.FallsLaws.{standard_falls, few}
+use Rattle.trees.proofs.FallsLaws.{standard_falls, few}
 use Rattle.conflict.specs.declared.reach.Reach.{Reach}
 use Rattle.conflict.specs.PathLaws.{same_path}
 use Rattle.conflict.specs.Gathering.{Walk}

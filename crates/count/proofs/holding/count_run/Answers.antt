@@ -1,6 +1,6 @@
 -- `count::holding::count_run` counts the mates of the reference in the row. Assumes nothing.
 use native.Mathlib.Omega.{arith}
-use Rattle.trees.specs.FallsLaws.{few, standard_falls}
+use Rattle.trees.proofs.FallsLaws.{few, standard_falls}
 use Rattle.count.specs.HolderLaws.{tallied}
 use Rattle.count.proofs.holding.count_run.Goals as goal
 

@@ -6,7 +6,7 @@ use lib.Dec.{eqb}
 use native.Mathlib.Omega.{arith}
 use Rattle.trees.specs.Tables.{entry}
 use Rattle.trees.specs.Mates.{no_mate}
-use Rattle.trees.specs.TableLaws.{remade_start, remade_more}
+use Rattle.trees.proofs.TableLaws.{remade_start, remade_more}
 use Rattle.count.specs.Holders.{with_mate}
 use Rattle.count.proofs.holding.tally.Goals as goal
 

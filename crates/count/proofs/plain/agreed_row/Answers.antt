@@ -2,7 +2,7 @@
 use mathlib.Core.Path.{◌≡◌, ◌∙◌}
 use native.Mathlib.Omega.{arith}
 use Rattle.trees.specs.Majority.{references}
-use Rattle.trees.specs.MajorityLaws.{references_most}
+use Rattle.trees.proofs.MajorityLaws.{references_most}
 use Rattle.count.specs.StudyLaws.{study_least, study_most, study_few}
 use Rattle.count.specs.PlainLaws.{accepted_start, accepted_end}
 use Rattle.count.proofs.plain.agreed_row.Goals as goal

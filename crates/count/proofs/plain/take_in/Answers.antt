@@ -6,7 +6,7 @@ use mathlib.Core.Bool.{Bool, false}
 use native.Mathlib.Omega.{arith}
 use lib.ListN.{length, length-replicate}
 use Rattle.trees.specs.Valid.{Standard}
-use Rattle.trees.specs.FallsLaws.{few, standard_falls}
+use Rattle.trees.proofs.FallsLaws.{few, standard_falls}
 use Rattle.count.specs.StudyLaws.{study_most, study_few, study_room, study_standard}
 use Rattle.count.proofs.plain.take_in.Goals as goal
 

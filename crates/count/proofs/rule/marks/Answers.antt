@@ -4,7 +4,7 @@ use native.Mathlib.Omega.{arith}
 use lib.ListN.{length-set}
 use Rattle.trees.specs.Tables.{entry}
 use Rattle.trees.specs.Majority.{is_shown}
-use Rattle.trees.specs.TableLaws.{flags_none, flags_more}
+use Rattle.trees.proofs.TableLaws.{flags_none, flags_more}
 use Rattle.count.proofs.rule.marks.Goals as goal
 
 pub loop-v-init : goal.loop-v-init

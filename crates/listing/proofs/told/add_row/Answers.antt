@@ -1,6 +1,6 @@
 -- `listing::told::add_row` adds a slot's run as the file has it, and the study is kept. Assumes nothing.
 use native.Mathlib.Omega.{arith}
-use Rattle.runs.specs.HistoryLaws.{called_kept}
+use Rattle.runs.proofs.HistoryLaws.{called_kept}
 use Rattle.listing.specs.Listing.{study_words, slot_call}
 use Rattle.listing.specs.ListingLaws.{slot_word}
 use Rattle.listing.proofs.told.add_row.Goals as goal

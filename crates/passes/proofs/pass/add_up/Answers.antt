@@ -1,6 +1,6 @@
 -- `passes::pass::add_up` meets its contract: after `done` steps the table is that stage of the pass. Assumes nothing.
 use Rattle.passes.proofs.Loops.{adding_room, adding_step, adding_end}
-use Rattle.trees.specs.FallsLaws.{few}
+use Rattle.trees.proofs.FallsLaws.{few}
 use native.Mathlib.Omega.{arith}
 use Rattle.passes.proofs.pass.add_up.Goals as goal
 

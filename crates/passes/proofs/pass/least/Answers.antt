@@ -2,8 +2,8 @@
 use Rattle.passes.proofs.Loops.{passing_step, lowering_start, lowering_end}
 use Rattle.trees.specs.Rows.{root_mark}
 use Rattle.trees.specs.Tables.{entry}
-use Rattle.trees.specs.TableLaws.{mins}
-use Rattle.trees.specs.FallsLaws.{few}
+use Rattle.trees.proofs.TableLaws.{mins}
+use Rattle.trees.proofs.FallsLaws.{few}
 use native.Mathlib.Omega.{arith}
 use Prim.Native.Nat.{min}
 use Rattle.passes.proofs.pass.least.Goals as goal

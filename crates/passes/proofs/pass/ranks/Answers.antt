@@ -1,6 +1,6 @@
 -- `passes::pass::ranks` meets its contract. Assumes nothing.
 use Rattle.trees.specs.Tables.{own}
-use Rattle.trees.specs.TableLaws.{tabled_keys, tabled_least}
+use Rattle.trees.proofs.TableLaws.{tabled_keys, tabled_least}
 use Rattle.passes.proofs.pass.ranks.Goals as goal
 
 pub least-requires : goal.least-requires

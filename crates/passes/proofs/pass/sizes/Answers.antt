@@ -1,7 +1,7 @@
 -- `passes::pass::sizes` meets its contract. Assumes nothing.
 use Rattle.trees.specs.Tables.{entry, one}
-use Rattle.trees.specs.PassLaws.{stage_start}
-use Rattle.trees.specs.TableLaws.{seed_same}
+use Rattle.trees.proofs.PassLaws.{stage_start}
+use Rattle.trees.proofs.TableLaws.{seed_same}
 use lib.ListN.{replicate, get_or-replicate}
 use native.Mathlib.Omega.{arith}
 use mathlib.Core.Path.{refl}

@@ -1,6 +1,6 @@
 -- `passes::pass::starts` meets its contract: the root and the nodes of the steps from i on are laid. Assumes nothing.
 use Rattle.passes.proofs.Loops.{laying_start, laying_room, laying_step, laying_end}
-use Rattle.trees.specs.FallsLaws.{few}
+use Rattle.trees.proofs.FallsLaws.{few}
 use Rattle.trees.specs.Passes.{offset_at}
 use lib.ListN.{get_or}
 use native.Mathlib.Omega.{arith}

@@ -1,7 +1,7 @@
 -- `passes::standard::falling` meets its contract: the nodes from v on decide. Assumes nothing.
 use mathlib.Core.Path.{ap, refl, sym, ◌∙◌}
 use Rattle.trees.specs.Falls.{misplaced}
-use Rattle.trees.specs.NeverLaws.{never_end, never_hit, never_pass}
+use Rattle.trees.proofs.NeverLaws.{never_end, never_hit, never_pass}
 use native.Mathlib.Omega.{arith}
 use mathlib.Core.Bool.{not}
 use Rattle.passes.proofs.standard.falling.Goals as goal

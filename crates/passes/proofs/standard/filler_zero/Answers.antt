@@ -5,7 +5,7 @@ use mathlib.Core.Bool.{false}
 use Rattle.trees.specs.Lists.{Place, nowhere, at}
 use Rattle.trees.specs.Checks.{accepted, refused, or_else, Check, asked, check8}
 use Rattle.trees.specs.Scans.{is_nowhere}
-use Rattle.trees.specs.ChainLaws.{asked_passes}
+use Rattle.trees.proofs.ChainLaws.{asked_passes}
 use Rattle.judge.specs.Verdicts.{verdict}
 use Rattle.passes.proofs.standard.filler_zero.Goals as goal
 

@@ -2,14 +2,14 @@
 use Rattle.trees.specs.Linear.{spans}
 use Rattle.trees.specs.Rows.{nodes}
 use Rattle.trees.specs.Checks.{row_words}
-use Rattle.trees.specs.BoolLaws.{and_l, and_r}
+use Rattle.trees.proofs.BoolLaws.{and_l, and_r}
 use Rattle.trees.specs.Falls.{falling}
 use Prim.Native.Nat.{◌<◌}
 use lib.Dec.{ltb}
 use mathlib.Core.Bool.{true}
 use borrow.Author.Tests.{ltb-true}
-use Rattle.trees.specs.LinearLaws.{spans_decides, falling_decides, rest_decides}
-use Rattle.trees.specs.FallsLaws.{falls_to}
+use Rattle.trees.proofs.LinearLaws.{spans_decides, falling_decides, rest_decides}
+use Rattle.trees.proofs.FallsLaws.{falls_to}
 use native.Mathlib.Omega.{arith}
 use mathlib.Core.Path.{◌≡◌, sym, ◌∙◌}
 use Rattle.passes.proofs.standard.is_standard.Goals.{Else-not-n-m}

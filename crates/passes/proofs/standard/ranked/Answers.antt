@@ -1,6 +1,6 @@
 -- `passes::standard::ranked` meets its contract. Assumes nothing.
-use Rattle.trees.specs.LinearLaws.{ranked_most, ranked_is}
-use Rattle.trees.specs.FallsLaws.{few}
+use Rattle.trees.proofs.LinearLaws.{ranked_most, ranked_is}
+use Rattle.trees.proofs.FallsLaws.{few}
 use native.Mathlib.Omega.{arith}
 use Rattle.passes.proofs.standard.ranked.Goals as goal
 

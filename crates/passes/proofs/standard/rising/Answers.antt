@@ -2,7 +2,7 @@
 use Prim.Native.Nat.{ℕ, ◌+◌}
 use Rattle.trees.specs.Tables.{rank_in}
 use Rattle.trees.specs.Linear.{falters}
-use Rattle.trees.specs.NeverLaws.{never_end, never_hit, never_pass}
+use Rattle.trees.proofs.NeverLaws.{never_end, never_hit, never_pass}
 use borrow.Author.Tests.{le-leb, lt-leb}
 use native.Mathlib.Numerals.{add-one}
 use native.Mathlib.Omega.{arith}

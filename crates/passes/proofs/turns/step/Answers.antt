@@ -1,6 +1,6 @@
 -- `passes::turns::step` meets its contract: a node of a step and its parent are nodes. Assumes nothing.
-use Rattle.trees.specs.FallsLaws.{few}
-use Rattle.trees.specs.PassLaws.{stepped}
+use Rattle.trees.proofs.FallsLaws.{few}
+use Rattle.trees.proofs.PassLaws.{stepped}
 use native.Mathlib.Omega.{arith}
 use mathlib.Core.Path.{refl}
 use Rattle.passes.proofs.turns.step.Goals as goal

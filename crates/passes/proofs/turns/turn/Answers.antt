@@ -1,5 +1,5 @@
 -- `passes::turns::turn` meets its contract. Assumes nothing.
-use Rattle.trees.specs.TurnLaws.{turn_leaf, turn_inner}
+use Rattle.trees.proofs.TurnLaws.{turn_leaf, turn_inner}
 use mathlib.Core.Path.{sym}
 use native.Mathlib.Omega.{arith}
 use Rattle.passes.proofs.turns.turn.Goals as goal

@@ -3,7 +3,7 @@ use Prim.Native.Nat.{zero-le}
 use mathlib.Core.Path.{refl, ◌∙◌}
 use native.Mathlib.Omega.{arith}
 use borrow.Author.Tests.{lt-ltb, le-ltb}
-use Rattle.trees.specs.ScanLaws.{scan_start, scan_pass, scan_hit, scan_end}
+use Rattle.trees.proofs.ScanLaws.{scan_start, scan_pass, scan_hit, scan_end}
 use Rattle.quick.proofs.branching.branching_counted.Goals as goal
 
 pub loop-v-init : goal.loop-v-init

@@ -3,7 +3,7 @@ use Rattle.std.specs.Prelude.{not}
 use Rattle.std.proofs.Common.{ap}
 use mathlib.Core.Path.{refl, sym, ◌∙◌}
 use native.Mathlib.Omega.{arith}
-use Rattle.trees.specs.ScanLaws.{scan_start, scan_pass, scan_hit, scan_end}
+use Rattle.trees.proofs.ScanLaws.{scan_start, scan_pass, scan_hit, scan_end}
 use borrow.Author.Rules.{rules}
 use Rattle.quick.proofs.climbing.climbing_marked.Goals as goal
 

@@ -1,6 +1,6 @@
 -- `reader::checks::bad_mark` finds no mark below x bad. Assumes nothing.
 use mathlib.Core.Path.{refl}
-use Rattle.trees.specs.ScanLaws.{scan_start}
+use Rattle.trees.proofs.ScanLaws.{scan_start}
 use Rattle.reader.specs.ResultLaws.{bad_hit, bad_not, bad_end}
 use borrow.Author.Rules.{rules}
 use Rattle.reader.proofs.checks.bad_mark.Goals as goal

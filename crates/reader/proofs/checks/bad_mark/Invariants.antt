@@ -1,7 +1,7 @@
 -- `reader::checks::bad_mark` finds no mark below x bad. Assumes nothing.
 use Prim.Native.Nat.{◌-◌}
 use Rattle.trees.specs.Checks.{most_samples}
-use Rattle.trees.specs.ScanLaws.{ScanLeft}
+use Rattle.trees.proofs.ScanLaws.{ScanLeft}
 use Rattle.lay.specs.Faults.{bad_mark}
 use Rattle.reader.proofs.checks.bad_mark.Given as goal
 

@@ -2,7 +2,7 @@
 use mathlib.Core.Path.{◌≡◌, sym, ap, ◌∙◌}
 use Rattle.trees.specs.Checks.{accepted, ◌⊳◌}
 use Rattle.trees.specs.RowCalls.{renumber_checks, renumbering}
-use Rattle.trees.specs.RowCallLaws.{renumbering_refused}
+use Rattle.trees.proofs.RowCallLaws.{renumbering_refused}
 use Rattle.judge.specs.Verdicts.{verdict}
 use Rattle.row.proofs.AnswerLaws.{both_given, written}
 use Rattle.row.proofs.renumbering.renumber.Goals.{In-Accepted}

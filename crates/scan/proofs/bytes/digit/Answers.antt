@@ -1,6 +1,6 @@
 -- `scan::bytes::digit` is given no byte below the digit 0. Assumes nothing.
 use native.Mathlib.Omega.{arith}
-use Rattle.newick.specs.ByteLaws.{digit_range}
+use Rattle.newick.proofs.ByteLaws.{digit_range}
 use Rattle.scan.proofs.bytes.digit.Goals as goal
 
 pub overflow_sub-result : goal.overflow_sub-result

@@ -7,7 +7,7 @@ use native.Mathlib.Omega.{arith}
 use lib.ListN.{get_or}
 use borrow.Author.Tests.{not-true, not-false}
 use Rattle.newick.specs.Bytes.{nought_byte, is_digit}
-use Rattle.newick.specs.ByteLaws.{digit_range}
+use Rattle.newick.proofs.ByteLaws.{digit_range}
 use Rattle.scan.specs.RunLaws.{passes_within}
 use Rattle.scan.specs.ScanningLaws.{sample_nought, sample_first, sampling_small, sampling_on, sampling_ends, sampling_full}
 use borrow.Author.Rules.{rules}

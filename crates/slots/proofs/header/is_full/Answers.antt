@@ -1,5 +1,5 @@
 -- `slots::is_full` meets its contract. Assumes nothing.
-use Rattle.runs.specs.SlotLaws.{formed_long}
+use Rattle.runs.proofs.SlotLaws.{formed_long}
 use Rattle.slots.proofs.header.is_full.Goals as goal
 
 pub in_force-requires : goal.in_force-requires

@@ -5,7 +5,7 @@ use native.Mathlib.Nat.{zero-mul}
 use lib.ListN.{length, get_or}
 use borrow.Author.Count.{below_none, below_more}
 use Rattle.runs.specs.Words.{samples, in_force, slot_words}
-use Rattle.runs.specs.SlotLaws.{formed_long, formed_fits, slot_within, slot_after}
+use Rattle.runs.proofs.SlotLaws.{formed_long, formed_fits, slot_within, slot_after}
 use borrow.Author.Rules.{rules}
 use Rattle.slots.proofs.search.find_slot.Goals as goal
 

@@ -5,7 +5,7 @@ use native.Mathlib.Omega.{arith}
 use mathlib.Core.List.{List}
 use lib.ListN.{set}
 use Rattle.runs.specs.Words.{samples, in_force, in_force_at, slot_start}
-use Rattle.runs.specs.SlotLaws.{formed_long, formed_fits, formed_few, slot_within}
+use Rattle.runs.proofs.SlotLaws.{formed_long, formed_fits, formed_few, slot_within}
 use Rattle.slots.proofs.store.close_run.Goals as goal
 
 pub in_force-k-requires : goal.in_force-k-requires

@@ -3,7 +3,7 @@ use native.Mathlib.Omega.{arith}
 use lib.ListN.{length-set}
 use Rattle.trees.specs.Checks.{row_words}
 use Rattle.trees.specs.Numbering.{renumbered}
-use Rattle.trees.specs.NumberingLaws.{renumbered_standard}
+use Rattle.trees.proofs.NumberingLaws.{renumbered_standard}
 use Rattle.slots.proofs.MoveLaws.{put_law}
 use Rattle.slots.proofs.store.put_at.Goals as goal
 

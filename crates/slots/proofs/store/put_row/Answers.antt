@@ -5,7 +5,7 @@ use borrow.Rule.Slice.PartMut.{put_mid}
 use Rattle.trees.specs.Checks.{row_words}
 use Rattle.trees.specs.Numbering.{renumbered}
 use mathlib.Core.Path.{refl, ap, ◌∙◌}
-use Rattle.trees.specs.NumberingLaws.{renumbered_standard}
+use Rattle.trees.proofs.NumberingLaws.{renumbered_standard}
 use Rattle.slots.proofs.MoveLaws.{put_paste}
 use Rattle.slots.proofs.store.put_row.Goals as goal
 

@@ -7,7 +7,7 @@ use lib.ListN.{set}
 use Rattle.runs.specs.Words.{samples, in_force, in_force_at, slot_start, slot}
 use Rattle.runs.specs.Calls.{stores}
 use Rattle.runs.specs.Moves.{put_at}
-use Rattle.runs.specs.SlotLaws.{formed_long, formed_fits, next_fits, slot_order}
+use Rattle.runs.proofs.SlotLaws.{formed_long, formed_fits, next_fits, slot_order}
 use Rattle.slots.proofs.store.put_run.Goals as goal
 
 pub samples-n-requires : goal.samples-n-requires

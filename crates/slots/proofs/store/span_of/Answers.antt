@@ -1,7 +1,7 @@
 -- `slots::span_of` meets its contract. Assumes nothing.
 use mathlib.Core.Path.{refl}
 use native.Mathlib.Omega.{arith}
-use Rattle.runs.specs.SlotLaws.{formed_long, formed_few}
+use Rattle.runs.proofs.SlotLaws.{formed_long, formed_few}
 use Rattle.slots.proofs.store.span_of.Goals as goal
 
 pub samples-n-requires : goal.samples-n-requires

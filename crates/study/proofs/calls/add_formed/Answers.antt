@@ -1,5 +1,5 @@
 -- `study::calls::add_formed` meets its contract: the identifier and the row are checked, then the slots. Assumes nothing.
-use Rattle.runs.specs.SlotLaws.{formed_long}
+use Rattle.runs.proofs.SlotLaws.{formed_long}
 use mathlib.Core.Path.{sym, ap, ◌∙◌}
 use Rattle.runs.specs.Words.{samples}
 use Rattle.trees.specs.Outcomes.{Outcome}

@@ -1,9 +1,9 @@
 -- `study::calls::add_valid` meets its contract: the run is in force, or the study is full, or its slot is put in. Assumes nothing.
 use mathlib.Core.Path.{sym, ap, ◌∙◌}
-use Rattle.trees.specs.NumberingLaws.{renumbered_standard}
+use Rattle.trees.proofs.NumberingLaws.{renumbered_standard}
 use Rattle.runs.specs.Words.{samples, full}
 use Rattle.runs.specs.Calls.{check11, check12, stores}
-use Rattle.runs.specs.MoveLaws.{put_words}
+use Rattle.runs.proofs.MoveLaws.{put_words}
 use Rattle.study.specs.Adding.{added_valid}
 use Rattle.study.proofs.CallLaws.{accepts, leaves, first_stops, second_stops, both_go, line_passed, free_goes}
 use Rattle.study.proofs.calls.add_valid.Goals as goal

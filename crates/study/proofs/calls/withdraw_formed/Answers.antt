@@ -1,7 +1,7 @@
 -- `study::calls::withdraw_formed` meets its contract: the run is not in force, or its slot is closed up. Assumes nothing.
 use mathlib.Core.Path.{sym, ap, ◌∙◌}
 use Rattle.runs.specs.Calls.{check4, check13, withdrawn}
-use Rattle.runs.specs.MoveLaws.{close_words}
+use Rattle.runs.proofs.MoveLaws.{close_words}
 use Rattle.study.proofs.CallLaws.{accepts, leaves, first_stops, second_stops, both_go, withdraw_checked, held_stands}
 use Rattle.study.proofs.calls.withdraw_formed.Goals as goal
 

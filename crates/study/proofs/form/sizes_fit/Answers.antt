@@ -1,6 +1,6 @@
 -- `study::form::sizes_fit` meets its contract. Assumes nothing.
 use Rattle.trees.specs.Checks.{fewest_samples, most_samples}
-use Rattle.trees.specs.CheckLaws.{outside_not}
+use Rattle.trees.proofs.CheckLaws.{outside_not}
 use Rattle.study.proofs.form.sizes_fit.Goals as goal
 
 pub returns-then-n : goal.returns-then-n

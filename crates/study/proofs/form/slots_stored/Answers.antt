@@ -2,7 +2,7 @@
 use lib.ListN.{length}
 use native.Mathlib.Nat.{zero-mul, sub-zero}
 use Rattle.runs.specs.Words.{slot_words}
-use Rattle.runs.specs.SlotLaws.{slot_within, slot_after}
+use Rattle.runs.proofs.SlotLaws.{slot_within, slot_after}
 use Rattle.study.proofs.FormLaws.{stored_on, stored_off, stored_end}
 use mathlib.Core.Path.{sym, ◌∙◌}
 use native.Mathlib.Omega.{arith}

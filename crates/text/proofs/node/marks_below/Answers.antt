@@ -4,7 +4,7 @@ use mathlib.Core.Bool.{false}
 use native.Mathlib.Omega.{arith}
 use lib.ListN.{length-set, length-replicate}
 use Rattle.trees.specs.Rows.{nodes}
-use Rattle.trees.specs.BelowLaws.{above_later}
+use Rattle.trees.proofs.BelowLaws.{above_later}
 use Rattle.text.specs.Marks.{mark_count}
 use Rattle.text.specs.MarkLaws.{marked_start, marked_next}
 use borrow.Author.Rules.{rules}

@@ -5,7 +5,7 @@ use native.Mathlib.Omega.{arith}
 use lib.Dec.{eqb}
 use lib.ListN.{length}
 use Rattle.trees.specs.Rows.{root_mark}
-use Rattle.trees.specs.BoolLaws.{or_none}
+use Rattle.trees.proofs.BoolLaws.{or_none}
 use Rattle.ascii.specs.DecimalLaws.{decimal_long}
 use Rattle.writer.proofs.MarkLaws.{words_there, mark_none, mark_some}
 use borrow.Author.Rules.{rules}

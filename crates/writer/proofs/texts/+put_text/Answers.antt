@@ -5,7 +5,7 @@ use mathlib.Core.List.{List, ◌∷◌}
 use native.Mathlib.Omega.{arith}
 use lib.Dec.{eqb, ltb}
 use borrow.Author.Tests.{eqb-false, ltb-false}
-use Rattle.trees.specs.BoolLaws.{or_none}
+use Rattle.trees.proofs.BoolLaws.{or_none}
 use Rattle.put.specs.WritingLaws.{put_then}
 use Rattle.writer.specs.Lengths.{wanted_by}
 use Rattle.newick.specs.Bytes.{opening_byte}

@@ -4,7 +4,7 @@ use mathlib.Core.Path.{ap}
 use native.Mathlib.Omega.{arith}
 use lib.Dec.{eqb, ltb}
 use lib.ListN.{length}
-use Rattle.trees.specs.BoolLaws.{or_none}
+use Rattle.trees.proofs.BoolLaws.{or_none}
 use Rattle.ascii.specs.Decimal.{decimal}
 use Rattle.put.specs.WritingLaws.{put_none}
 use Rattle.writer.proofs.MarkLaws.{words_there, behind_none, behind_some}

@@ -3,7 +3,7 @@ use Prim.Native.Nat.{ℕ, ◌-◌, ◌/◌}
 use mathlib.Core.Path.{sym, ap}
 use native.Mathlib.Omega.{arith}
 use Rattle.runs.specs.Words.{header_words, capacity}
-use Rattle.runs.specs.WordLaws.{capacity_short}
+use Rattle.runs.proofs.WordLaws.{capacity_short}
 use Rattle.slots.proofs.header.Header.capacity.Goals as goal
 
 pub returns-then-len-lt-WORDS : goal.returns-then-len-lt-WORDS

@@ -1,0 +1,14 @@
+pub mod RunLaws
+pub mod WordLaws
+pub mod FormedLaws
+pub mod SlotLaws
+pub mod CallLaws
+pub mod AddLaws
+pub mod WithdrawLaws
+pub mod HistoryLaws
+pub mod FreshLaws
+pub mod RoomLaws
+pub mod StoredLaws
+pub mod MoveLaws
+pub mod PlacedLaws
+pub mod ReportLaws
