@@ -2,7 +2,7 @@
 use Prim.Native.Nat.{◌-◌, ◌≤◌}
 use mathlib.Core.Path.{◌≡◌}
 use Rattle.trees.specs.Lists.{tabulate}
-use Rattle.runs.proofs.CallLaws.{Kept}
+use Rattle.runs.specs.Formed.{Kept}
 use Rattle.listing.specs.Listing.{study_words, slot_call, adds_and_reports}
 use Rattle.listing.proofs.told.add_slots.Given as goal
 

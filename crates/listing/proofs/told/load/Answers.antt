@@ -2,7 +2,7 @@
 use mathlib.Core.Path.{◌≡◌, sym, ◌∙◌}
 use native.Mathlib.Omega.{arith}
 use Rattle.trees.specs.Lists.{tabulate}
-use Rattle.runs.proofs.CallLaws.{Kept}
+use Rattle.runs.specs.Formed.{Kept}
 use Rattle.file.specs.FileLaws.{good_length}
 use Rattle.listing.specs.Listing.{study_words, slot_call, adds_and_reports, listed}
 use Rattle.listing.specs.ListingLaws.{listed_bad, load_stops, load_goes}
