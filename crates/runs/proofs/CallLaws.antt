@@ -11,7 +11,6 @@ use Rattle.trees.proofs.ChainLaws.{passed_chain, chain_passed, numbers, Exactly,
 use Rattle.trees.proofs.OutcomeLaws.{outcome_refused, outcome_accepted}
 use Rattle.trees.proofs.CheckLaws.{samples_exactly}
 use Rattle.runs.specs.Words.{samples, runs, encode, capacity}
-use Rattle.runs.specs.Formed.{Formed}
 use Rattle.runs.specs.Calls.{check3_open, open_checks, opened}
 use Rattle.runs.proofs.WordLaws.{samples_encode}
 use Rattle.runs.proofs.FormedLaws.{Room, room_length, room_runs, room_formed}

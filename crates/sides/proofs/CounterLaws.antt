@@ -1,22 +1,22 @@
 -- After all runs every group that is ahead is a candidate, and the candidates agree; for any weights. Assumes nothing.
-use Rattle.std.specs.Prelude.{ℕ, zero, suc, ◌+◌, ◌-◌, ◌≤◌, ◌<◌, max, ◌≡◌, refl, ◌⊎◌, Bool, false, ◌&&◌, ◌||◌, cond, not, length}
-use Rattle.std.proofs.Common.{zero-le, sym, ap, ◌∙◌, inl, inr, ⊎_elim, true≢false, arith}
+use Rattle.std.specs.Prelude.{ℕ, ◌+◌, ◌-◌, ◌≤◌, ◌<◌, max, ◌≡◌, refl, ◌⊎◌, Bool, false, ◌||◌, cond, not, length}
+use Rattle.std.proofs.Common.{zero-le, sym, ap, ◌∙◌, inl, inr, ⊎_elim, arith}
 use mathlib.Core.List.{List, [], ◌∷◌, ◌++◌, Memᴰ}
 use Rattle.std.proofs.Math.Bool.{true}
 use Rattle.std.proofs.lemmas.Bool.{false≢true}
 use Rattle.std.proofs.Math.Dec.{ltb}
 use borrow.Author.Tests.{ltb-true, ltb-false, lt-ltb}
-use Rattle.trees.specs.Lists.{weigh, filter}
+use Rattle.trees.specs.Lists.{weigh}
 use Rattle.trees.specs.Groups.{Group, agree, conflict, member}
 use Rattle.trees.specs.Rows.{groups, holds}
 use Rattle.trees.specs.Valid.{Valid, In}
 use Rattle.trees.specs.Reporting.{Run, worth, support}
 use Rattle.trees.specs.Thresholds.{least_threshold}
 use Rattle.trees.specs.Majority.{majority}
-use Rattle.trees.proofs.BoolLaws.{and_l, and_r, and_both, or_cases, or_l, or_r, true_eq, not_yes, decide}
+use Rattle.trees.proofs.BoolLaws.{and_l, and_both, or_l, or_r, not_yes, decide}
 use Rattle.trees.proofs.GroupLaws.{agree_to}
 use Rattle.trees.specs.Groups.{Agree}
-use Rattle.trees.proofs.MemberLaws.{in_none, in_head, in_tail, in_cases, member_append, member_filter}
+use Rattle.trees.proofs.MemberLaws.{in_none, in_cases, member_append, member_filter}
 use Rattle.trees.proofs.ReportingLaws.{Runs}
 use Rattle.sides.specs.Sides.{crossed, conflicts, against}
 use Rattle.sides.proofs.SideLaws.{conflict_swap, crossed_by, crossed_in, holder_conflicts, held_peaceful, shown_ahead}

@@ -1,6 +1,6 @@
 -- No run holds a group and conflicts with it; so more runs are for a group that a report shows than against it. Assumes nothing.
 use Rattle.std.specs.Prelude.{ℕ, ◌+◌, ◌≤◌, ◌<◌, ◌≡◌, refl, List, [], ◌∷◌, true, false, not, length}
-use Rattle.std.proofs.Common.{ap, ◌∙◌, ⊎_elim, arith}
+use Rattle.std.proofs.Common.{ap, ⊎_elim, arith}
 use Rattle.std.proofs.lemmas.Bool.{false≢true}
 use Rattle.trees.specs.Groups.{Group, agree, conflict}
 use Rattle.trees.specs.Rows.{groups, holds}
@@ -11,7 +11,6 @@ use Rattle.trees.specs.Majority.{majority}
 use Rattle.trees.proofs.BoolLaws.{or_cases, or_l, or_r, not_yes}
 use Rattle.trees.proofs.ListLaws.{weigh_apart}
 use Rattle.trees.proofs.GroupLaws.{agree_to, conflict_to}
-use Rattle.trees.specs.Groups.{Agree}
 use Rattle.trees.proofs.MemberLaws.{in_none, in_head, in_tail, in_cases}
 use Rattle.trees.proofs.NumberingLaws.{row_tree}
 use Rattle.trees.proofs.MergingLaws.{agree_sym}

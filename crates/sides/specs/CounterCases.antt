@@ -1,5 +1,5 @@
 -- A worked case of the counters: weights 2, 3, 2, for which counters that simply move by the weight would lose a group that is ahead.
-use Rattle.std.specs.Prelude.{ℕ, ◌+◌, ◌-◌, max, ◌≡◌, refl, List, [], ◌∷◌, ◌++◌, true, false, cond}
+use Rattle.std.specs.Prelude.{ℕ, ◌≡◌, refl, List, [], ◌∷◌, true, false}
 use Rattle.trees.specs.Lists.{tabulate, filter}
 use Rattle.trees.specs.Groups.{Group, within, apart, same, member}
 use Rattle.trees.specs.Rows.{nodes, parent, meets, group_at, groups}

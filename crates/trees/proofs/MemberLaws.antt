@@ -1,6 +1,6 @@
 -- Lists of groups by their members: order, filter and append; a list in strict order is settled by its members. Assumes nothing.
 use Rattle.trees.specs.Groups.{nth}
-use Rattle.std.specs.Prelude.{ℕ, zero, suc, ◌+◌, ◌-◌, ◌≤◌, ◌<◌, ◌≡◌, refl, ◌⊎◌, Bool, true, false, ◌&&◌, ◌||◌, cond, length, get_or}
+use Rattle.std.specs.Prelude.{ℕ, zero, suc, ◌+◌, ◌-◌, ◌≤◌, ◌<◌, ◌≡◌, refl, ◌⊎◌, Bool, true, false, ◌&&◌, ◌||◌, cond, length}
 use Rattle.std.proofs.Common.{suc-le-suc, sym, ap, ◌∙◌, inl, inr, ⊎_elim, le_of_suc-le-suc, add-sub_of_le, arith}
 use mathlib.Core.List.{List, [], ◌∷◌, ◌++◌, Memᴰ}
 use Rattle.std.proofs.lemmas.Bool.{false≢true}

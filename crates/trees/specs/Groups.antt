@@ -87,7 +87,6 @@ member g (h ∷ hs) = same g h || member g hs
 abbrev pub nth : List Group → ℕ → Group
 nth gs i = get_or gs i []
 
-
 -- every sample of g is in h
 abbrev pub Within : Group → Group → Type 0
 Within g h = (s : ℕ) → has g s ≡ true → has h s ≡ true

@@ -2,7 +2,6 @@
 use mathlib.Core.Path.{refl}
 use native.Mathlib.Omega.{arith}
 use borrow.Author.Tests.{lt-ltb, le-ltb}
-use Rattle.trees.specs.Checks.{children}
 use Rattle.trees.proofs.ScanLaws.{scan_start, scan_pass, scan_hit, scan_end}
 use Rattle.judge.proofs.branching.Goals as goal
 

@@ -3,7 +3,7 @@ use Prim.Native.Nat.{◌<◌}
 use mathlib.Core.Path.{sym, ◌∙◌}
 use native.Mathlib.Omega.{arith}
 use borrow.Author.Tests.{eq-eqb, ne_eqb}
-use Rattle.trees.specs.Rows.{nodes, parent}
+use Rattle.trees.specs.Rows.{nodes}
 use Rattle.trees.proofs.ScanLaws.{count_start, count_yes, count_no, count_end}
 use Rattle.judge.proofs.children.Goals.{then-parent-p, else-parent-p}
 use Rattle.judge.proofs.children.Goals as goal

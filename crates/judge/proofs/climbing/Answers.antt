@@ -2,7 +2,6 @@
 use mathlib.Core.Path.{refl, ap}
 use mathlib.Core.Bool.{not}
 use native.Mathlib.Omega.{arith}
-use Rattle.trees.specs.Rows.{ends}
 use Rattle.trees.proofs.ScanLaws.{scan_start, scan_pass, scan_hit, scan_end}
 use Rattle.judge.proofs.climbing.Goals as goal
 

@@ -1,7 +1,6 @@
 -- `judge::parents` answers check 6: the nodes passed have no wrong parent, so those that are left decide. Assumes nothing.
 use mathlib.Core.Path.{refl, sym, ◌∙◌}
 use native.Mathlib.Omega.{arith}
-use Rattle.trees.specs.Checks.{stray}
 use Rattle.trees.proofs.ScanLaws.{scan_start, scan_pass, scan_hit, scan_end}
 use Rattle.judge.proofs.parents.Goals as goal
 

@@ -3,7 +3,6 @@ use Rattle.trees.specs.Linear.{spans}
 use Rattle.trees.specs.Rows.{nodes}
 use Rattle.trees.specs.Checks.{row_words}
 use Rattle.trees.proofs.BoolLaws.{and_l, and_r}
-use Rattle.trees.specs.Falls.{falling}
 use Prim.Native.Nat.{◌<◌}
 use lib.Dec.{ltb}
 use mathlib.Core.Bool.{true}
