@@ -245,6 +245,7 @@ listed_tree bytes n k row support = (λ e. go (comes bytes) e, tree_from bytes n
 
 -- a number is given only by a check that has it
 given_number : (cs : List Check) (r p : ℕ) → Given r p cs → Memᴰ r (numbers cs)
+given_number [] r p x' = elim x' [ ]
 given_number (c ∷ cs) r p (here a f) = Memᴰ.head (sym a)
 given_number (c ∷ cs) r p (later f g) = Memᴰ.tail (given_number cs r p g)
 

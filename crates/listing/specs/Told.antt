@@ -1,5 +1,5 @@
 -- What the code makes of a file, and what it stands for.
-use Rattle.std.specs.Prelude.{ℕ, ◌≤◌, ◌≡◌, List, length, take}
+use Rattle.std.specs.Prelude.{ℕ, ◌≤◌, List, length, take}
 use Rattle.trees.specs.Checks.{most_samples, row_words}
 use Rattle.trees.specs.Valid.{Standard}
 use Rattle.runs.specs.Formed.{Kept}

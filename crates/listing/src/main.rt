@@ -1,21 +1,44 @@
 // Lists the agreed tree of a file (RULES 9): standard input holds the file, and standard output gets the lines. `told` knows what
-// a file comes to, `lines` what each line is; here bytes are only moved.
+// a file comes to, `lines` what each line is; here bytes are only moved. It ends with an error if a read or a write fails.
 #![tactic(auto)]
+
 mod lines;
 mod told;
 
 ghost use Rattle.std.specs.Prelude.{◌≡◌, ◌<◌, ◌≤◌, length};
+ghost use Rattle.std.specs.Io.{ReadsAtMost};
 ghost use Rattle.text.specs.Room.{line_bytes};
 ghost use Rattle.listing.specs.Listing.{study_words, lines_of};
 ghost use Rattle.listing.specs.Told.{shows, Printable};
 
+use std::io;
+use std::io::{Read, Write};
 use told::{STUDY_WORDS, Told};
 
-// The buffer takes more bytes than a file can have (RULES 1.5), so that a file that is too long is noticed.
-fn main() {
-    let mut bytes = io::large_buffer();
-    let got = io::read_full(libc::STDIN_FILENO, &mut bytes);
-    list(&bytes[..got]);
+// Bytes of the file's buffer: more than a file can have (RULES 1.5), so that a file that is too long is noticed.
+const FILE_ROOM: usize = 65536;
+
+// Bytes of the buffer of a line.
+const LINE_ROOM: usize = 4096;
+
+fn main(rt: HostRuntime) -> io::Result<()> {
+    let mut bytes = file_room();
+    let got = read_full(&mut rt.stdin(), &mut bytes)?;
+    list(&bytes[..got], &mut rt.stdout())
+}
+
+// Bytes for the file.
+fn file_room() -> [u8; FILE_ROOM]
+    ensures { 65536 ≡ length result }
+{
+    [0; FILE_ROOM]
+}
+
+// Bytes for a line.
+fn line_room() -> [u8; LINE_ROOM]
+    ensures { 4096 ≡ length result }
+{
+    [0; LINE_ROOM]
 }
 
 // Words for the study (RULES 9.2).
@@ -25,31 +48,59 @@ fn study_room() -> [u16; STUDY_WORDS]
     [0; STUDY_WORDS]
 }
 
+// Reads until the bytes are full or the input ends, and says how many bytes it put at their front.
+fn read_full<R: Read>(input: &mut R, bytes: &mut [u8]) -> io::Result<usize>
+    ensures { ReadsAtMost result bytes.new }
+{
+    let mut done = 0;
+    while done < bytes.len() {
+        let n = input.read(&mut bytes[done..])?;
+        if n == 0 {
+            break;
+        }
+        done += n;
+    }
+    Ok(done)
+}
+
 // Lists a file.
-fn list(bytes: &[u8]) {
+fn list<W: Write>(bytes: &[u8], output: &mut W) -> io::Result<()> {
     let mut words = study_room();
     let mut agreed = told::row_room();
     let mut support = told::row_room();
-    let mut out = io::buffer();
+    let mut out = line_room();
     let told = told::tell(bytes, &mut words, &mut agreed, &mut support);
-    print(told, &agreed, &support, &mut out);
+    print(told, &agreed, &support, output, &mut out)
 }
 
 // Writes line by line.
-fn print(told: Told, agreed: &[u16], support: &[u16], out: &mut [u8])
+fn print<W: Write>(
+    told: Told,
+    agreed: &[u16],
+    support: &[u16],
+    output: &mut W,
+    out: &mut [u8],
+) -> io::Result<()>
     requires { Printable told agreed.now support.now × (line_bytes ≤ length out.old) }
 {
     let count = lines::line_count(told, agreed, support);
-    let mut i: usize = 0;
-    while i < count && print_line(told, agreed, support, i, out) {
-        i += 1;
+    for i in 0..count {
+        print_line(told, agreed, support, i, output, out)?;
     }
+    Ok(())
 }
 
-// Writes line i, and says whether that went well.
-fn print_line(told: Told, agreed: &[u16], support: &[u16], i: usize, out: &mut [u8]) -> bool
+// Writes line i.
+fn print_line<W: Write>(
+    told: Told,
+    agreed: &[u16],
+    support: &[u16],
+    i: usize,
+    output: &mut W,
+    out: &mut [u8],
+) -> io::Result<()>
     requires { Printable told agreed.now support.now × (i < length (lines_of (shows told agreed.now support.now))) × (line_bytes ≤ length out.old) }
 {
     let end = lines::put_line(told, agreed, support, i, out);
-    io::write_all(libc::STDOUT_FILENO, &out[..end])
+    output.write_all(&out[..end])
 }

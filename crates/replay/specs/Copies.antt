@@ -1,5 +1,5 @@
 -- A list copied element by element. Assumes nothing.
-use Rattle.std.specs.Prelude.{ℕ, suc, ◌+◌, ◌<◌, ◌≡◌, refl, List, [], ◌∷◌, ◌++◌, length, get_or, take, drop, set}
+use Rattle.std.specs.Prelude.{ℕ, ◌+◌, ◌<◌, ◌≡◌, List, [], ◌++◌, length, get_or, take, drop, set}
 use Rattle.std.proofs.Common.{sym, ◌∙◌, append-nil, add-one, drop-cons, take-suc-set}
 use Rattle.std.proofs.Math.Seq.{append_snoc, drop-length, take-length}
 

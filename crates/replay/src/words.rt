@@ -15,6 +15,16 @@ pub fn buffer() -> [u16; MOST_WORDS]
     [0; MOST_WORDS]
 }
 
+// Bytes that a whole buffer's words take.
+const MOST_BYTES: usize = 65536;
+
+// Zeros, as many as there are bytes in a whole buffer.
+pub fn byte_buffer() -> [u8; MOST_BYTES]
+    ensures { 2 * most_words ≡ length result }
+{
+    [0; MOST_BYTES]
+}
+
 // Fills words with the words that the bytes are.
 pub fn fill_words(bytes: &[u8], words: &mut [u16])
     requires { length bytes.now ≡ 2 * length words.old }
