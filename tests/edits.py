@@ -1,4 +1,4 @@
-"""Every must-fail edit fits: each text that it replaces stands in its file, once. tests/must_fail.py tries the edits, and would tell only then.
+"""Every must-fail edit fits: each text that it replaces stands in its file, once. `rt must-fail` and `rt ci` try the edits, and would tell only then.
 
 python3 tests/edits.py    says where that is not so; its status is then 1
 """

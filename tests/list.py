@@ -161,10 +161,10 @@ def test_failed_writes(trials: Trials, folder: Path) -> None:
 
 # Building, in a tree of its own. Stand-ins take the place of `rt`, of the program, and of what runs it.
 
-PROVES = "echo 'rt: trees proved (1 s)'\necho 'a line of the prover'\n"
-GOOD_RT = PROVES + "mkdir -p target/bin && cp stand-in target/bin/listing\n"
+PROVES = "echo 'rt: chose two jobs'\necho 'a line of the prover'\n"
+GOOD_RT = PROVES + "mkdir -p out && cp ../../stand-in out/listing\n"
 IDLE_RT = PROVES  # takes the program for built
-BAD_RT = "echo 'rt: trees NOT PROVED (exit 1, 1 s)' && exit 1\n"
+BAD_RT = "echo 'rt: the library trees did not build' && exit 1\n"
 LONG_AGO = 10**9  # seconds since 1970
 
 
@@ -181,7 +181,7 @@ class Tree:
     def __init__(self, folder: Path) -> None:
         self.top = folder / "tree"
         self.source = self.top / "crates" / "listing" / "src" / "main.rt"
-        self.program = self.top / "target" / "bin" / "listing"
+        self.program = self.top / "crates" / "listing" / "out" / "listing"
         self.log = self.top / "target" / "list.log"
         self.source.parent.mkdir(parents=True)
         self.source.touch()
@@ -198,7 +198,7 @@ class Tree:
         kit.mkdir()
         if not rt:
             return str(kit)
-        write_script(kit / "rt", 'echo "$*" >>asked\n' + rt)
+        write_script(kit / "rt", f'echo "${{PWD##*/}}: $*" >>'{self.top}/asked'\n{rt}')
         return f"{kit}{os.pathsep}{os.environ['PATH']}"
 
     def list(self, rt: str) -> Came:
@@ -206,7 +206,7 @@ class Tree:
         return run(sys.executable, self.top / "list", NAME, folder=self.top, environment={**os.environ, "PATH": self.path(rt)})
 
     def asked(self) -> list[str]:
-        """What `rt` was asked for since this was last called."""
+        """What `rt` was asked for since this was last called, and in which folder."""
         asked = self.top / "asked"
         lines = asked.read_text().splitlines() if asked.exists() else []
         asked.unlink(missing_ok=True)
@@ -229,11 +229,11 @@ class Tree:
 
     def built(self) -> Came:
         """What comes of a build and a listing."""
-        return Came(0, LISTING, f"{self.building()}rt: trees proved (1 s)\n")
+        return Came(0, LISTING, f"{self.building()}rt: chose two jobs\n")
 
     def not_proved(self) -> Came:
         """What comes of a proof that fails."""
-        failed = f"rt: trees NOT PROVED (exit 1, 1 s)\nlist: the listing program is not proved; {self.log} has the reason\n"
+        failed = f"rt: the library trees did not build\nlist: the listing program is not proved; {self.log} has the reason\n"
         return Came(3, "", self.building() + failed)
 
 
@@ -242,10 +242,10 @@ def test_first_build(trials: Trials, tree: Tree) -> None:
     no_rt = "list: cannot build the listing program: there is no `rt` (Rattle's kit) on the path\n"
     trials.expect("no rt", Came(3, "", no_rt), tree.list(""))
     trials.expect("the first proof fails", tree.not_proved(), tree.list(BAD_RT))
-    trials.expect("rt was asked", ["check listing"], tree.asked())
+    trials.expect("rt was asked", ["listing: run"], tree.asked())
     trials.expect("the first build", tree.built(), tree.list(GOOD_RT))
-    trials.expect("rt was asked again", ["check listing"], tree.asked())
-    trials.expect("the log", "rt: trees proved (1 s)\na line of the prover\n", tree.log.read_text())
+    trials.expect("rt was asked again", ["listing: run"], tree.asked())
+    trials.expect("the log", "rt: chose two jobs\na line of the prover\n", tree.log.read_text())
 
 
 def test_later_builds(trials: Trials, tree: Tree) -> None:
@@ -253,6 +253,8 @@ def test_later_builds(trials: Trials, tree: Tree) -> None:
     trials.expect("it is built", LISTED, tree.list(BAD_RT))
     trials.expect("rt was not asked", [], tree.asked())
     trials.expect("it is built, and there is no rt", LISTED, tree.list(""))
+    (tree.program.parent / "more").touch()
+    trials.expect("what rt makes is no source", LISTED, tree.list(BAD_RT))
     tree.edit()
     trials.expect("a source is newer", tree.built(), tree.list(GOOD_RT))
     trials.expect("then it is built", LISTED, tree.list(BAD_RT))
@@ -275,7 +277,7 @@ def test_later_builds(trials: Trials, tree: Tree) -> None:
 def test_failed_programs(trials: Trials, tree: Tree) -> None:
     """A program that is missing, that fails, and that gives a number which has no sentence."""
     tree.program.unlink()
-    missing = f"rt: trees proved (1 s)\nlist: `rt` takes the listing program for built, and it is not there: remove {tree.top / 'target'}\n"
+    missing = f"rt: chose two jobs\nlist: `rt` takes the listing program for built, and it is not there: remove {tree.program.parent}\n"
     trials.expect("the program is missing", Came(3, "", tree.building() + missing), tree.list(IDLE_RT))
     write_script(tree.program, "echo half && exit 7\n")
     failed = "list: the listing program failed: it wrote 5 bytes and ended with status 7\n"
