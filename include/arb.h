@@ -133,19 +133,19 @@ enum arb_refusal {
 uint64_t arb_open(size_t n, uint16_t *study, size_t study_length);
 
 /* Adding: puts a run into the study, its row in standard numbering. `row` is not written.
-   Refusals: 2, 3, 4, 5 to 10 for the row, 11, 12. Stack: 11,264 bytes. */
+   Refusals: 2, 3, 4, 5 to 10 for the row, 11, 12. Stack: 9,216 bytes. */
 uint64_t arb_add(uint16_t *study, size_t study_length, uint16_t identifier, const uint16_t *row, size_t row_length);
 
 /* Withdrawing: takes a run out of the study. Its room is free for another, and its identifier too.
-   Refusals: 2, 4, 13. Stack: 11,264 bytes. */
+   Refusals: 2, 4, 13. Stack: 9,216 bytes. */
 uint64_t arb_withdraw(uint16_t *study, size_t study_length, uint16_t identifier);
 
 /* Reporting: writes the agreed row at threshold p and its support row, 2n words each. The study is not written.
-   Refusals: 2, 3 for either output, 16, 14. Stack: 44,032 bytes. */
+   Refusals: 2, 3 for either output, 16, 14. Stack: 41,984 bytes. */
 uint64_t arb_report(const uint16_t *study, size_t study_length, size_t p, uint16_t *agreed, size_t agreed_length, uint16_t *support, size_t support_length);
 
 /* Judging: is the row one tree over n samples? Writes nothing.
-   Refusals: 1, 3, 5 to 10. Stack: 24 bytes. */
+   Refusals: 1, 3, 5 to 10. Stack: 48 bytes. */
 uint64_t arb_judge(size_t n, const uint16_t *row, size_t row_length);
 
 /* Renumbering: writes the same tree in standard numbering to `out`, 2n words. `row` is not written.
@@ -156,23 +156,23 @@ uint64_t arb_renumber(size_t n, const uint16_t *row, size_t row_length, uint16_t
    fewer than all count, each once, and no others: so each count is at most n - 2. The last two together are the distance of the two
    trees: by how many groups they differ. Writes nothing.
    Refusals: 1, 3 for either row, then 5 to 10, of `first` and after that of `second`; there 2n is added to every place, that of 5 and 7 too.
-   Stack: 29,696 bytes. */
+   Stack: 27,648 bytes. */
 uint64_t arb_compare(size_t n, const uint16_t *first, size_t first_length, const uint16_t *second, size_t second_length);
 
 /* Reading Newick: writes the tree of a text over n samples to `out`, 2n words, in standard numbering. In the text each sample stands once and
    no other number does; pairs that hold one subtree add nothing. `text` is not written.
-   Refusals: 1, 3 for `out`, 17, 18. Stack: 93,184 bytes. */
+   Refusals: 1, 3 for `out`, 17, 18. Stack: 44,032 bytes. */
 uint64_t arb_read_newick(size_t n, const uint8_t *text, size_t text_length, uint16_t *out, size_t out_length);
 
 /* Writing Newick: puts the text of a row, in any numbering, to the front of `text`, and answers how many bytes it has (ARB_LENGTH). Nothing is
    put behind its semicolon: the bytes there stay as they were. Reading it gives the row in standard numbering. `row` is not written.
-   Refusals: 1, 3 for the row, 5 to 10, 3 for the text. Stack: 74,752 bytes. */
+   Refusals: 1, 3 for the row, 5 to 10, 3 for the text. Stack: 58,368 bytes. */
 uint64_t arb_write_newick(size_t n, const uint16_t *row, size_t row_length, uint8_t *text, size_t text_length);
 
 /* The same with supports: behind each closing bracket but the last stands, in decimal, the word that `support`, 2n words, has for its node,
    which is word 1+v for node v of this row: of a report, say, the support row beside the agreed row. These words may be any; the others are
    not looked at. `support` is not written.
-   Refusals: 1, 3 for either row, 5 to 10, 3 for the text. Stack: 74,752 bytes. */
+   Refusals: 1, 3 for either row, 5 to 10, 3 for the text. Stack: 58,368 bytes. */
 uint64_t arb_write_newick_supports(size_t n, const uint16_t *row, size_t row_length, const uint16_t *support, size_t support_length,
     uint8_t *text, size_t text_length);
 

@@ -9,13 +9,14 @@ from pathlib import Path
 
 TOP = Path(__file__).resolve().parent.parent
 PAGE = "docs/PROMISES.md"
+PARTS = ("src", "specs", "proofs")  # of a crate
 WORD = r"[^\s(){}\[\].,;:⌜⌝λ·]+"  # a name in the crates
 ROOTS = [TOP, TOP / "crates", TOP / "tests" / "second", TOP / "crates" / "replay"]
 
 
 def known_words() -> set[str]:
     """Every word of the crates' sources, and the crates' names."""
-    sources = [path.read_text() for path in (TOP / "crates").glob("**/*") if path.suffix in {".rt", ".antt"}]
+    sources = [path.read_text() for part in PARTS for path in TOP.glob(f"crates/*/{part}/**/*") if path.suffix in {".rt", ".antt"}]
     return set(re.findall(WORD, "\n".join(sources))) | {path.name for path in (TOP / "crates").iterdir()}
 
 
