@@ -3,7 +3,5 @@ pub mod Made
 pub mod MadeLaws
 pub mod Demand3
 pub mod Packing
-pub mod PackingLaws
-pub mod DeterminedC
 pub mod Specimens
 pub mod SpecimenLaws

@@ -1,5 +1,5 @@
 -- The candidates of a study: how they start, what one run more makes of them, and what is left of them in the end. Assumes nothing.
-use Rattle.std.specs.Prelude.{ℕ, suc, ◌+◌, ◌≤◌, ◌<◌, ◌≡◌, refl, Bool, true, length, get_or, take}
+use Rattle.std.specs.Prelude.{ℕ, ◌+◌, ◌≤◌, ◌<◌, ◌≡◌, Bool, true, length, get_or, take}
 use Rattle.std.proofs.Common.{sym, ap, ◌∙◌, subst, ⊎_elim, add-one, arith, length-take, take_all, take-suc}
 use mathlib.Core.List.Memᴰ
 use mathlib.Core.List.{List, [], ◌∷◌, Memᴰ}
@@ -16,7 +16,6 @@ use Rattle.trees.specs.Thresholds.{InRange}
 use Rattle.trees.specs.Majority.{majority, references}
 use Rattle.trees.proofs.GroupLaws.{size_whole}
 use Rattle.trees.specs.Groups.{under}
-use Rattle.trees.specs.Groups.{Agree}
 use Rattle.trees.proofs.MemberLaws.{in_none, in_head, in_cases}
 use Rattle.trees.proofs.RowLaws.{in_groups, inner_in}
 use Rattle.trees.proofs.NodeLaws.{big_inner}
@@ -24,7 +23,7 @@ use Rattle.trees.proofs.FamilyLaws.{Family}
 use Rattle.trees.proofs.PlantingLaws.{planted_standard}
 use Rattle.trees.proofs.ReportingLaws.{Holder, total_length}
 use Rattle.trees.proofs.MajorityLaws.{majority_held, majority_early}
-use Rattle.runs.specs.Words.{runs, run_at, most_runs}
+use Rattle.runs.specs.Words.{runs, run_at}
 use Rattle.count.specs.Studies.{Study, row_at}
 use Rattle.count.specs.StudyLaws.{study_least, study_most, study_few, study_length, study_run, study_valid}
 use Rattle.count.specs.StudyLaws.{study_some, study_sound, study_standard}

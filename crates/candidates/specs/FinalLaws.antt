@@ -1,5 +1,5 @@
 -- What an exact count leaves of a row that has every group which the rule passes is the agreed row. Assumes nothing.
-use Rattle.std.specs.Prelude.{ℕ, ◌≤◌, ◌<◌, ◌≡◌, List, Bool, ◌&&◌}
+use Rattle.std.specs.Prelude.{ℕ, ◌≤◌, ◌<◌, ◌≡◌, List, Bool}
 use Rattle.std.proofs.Common.{sym, ◌∙◌, subst, ⊎_elim, arith, leb-true, le-leb}
 use Rattle.std.proofs.Math.Path.{ap}
 use Rattle.std.proofs.Math.Bool.{true}

@@ -1,2 +1,10 @@
+pub mod LayLaws
+pub mod LaidLaws
+pub mod LaidRow
+pub mod TallyLaws
+pub mod InsideLaws
+pub mod KeepingLaws
+pub mod FaultLaws
+pub mod ReadLaws
 pub mod Steps
 pub mod Loop

@@ -16,10 +16,10 @@ use Rattle.scan.specs.declared.Progress.TheVariants.{Reached, Stopped}
 use Rattle.scan.specs.declared.numbers.Number.{Number}
 use Rattle.scan.specs.Scanning.{Lone, Opens, Stuck}
 use Rattle.scan.specs.RunLaws.{look_within}
-use Rattle.lay.specs.LayLaws.{grow_few, next_grown}
+use Rattle.lay.proofs.LayLaws.{grow_few, next_grown}
 use Rattle.lay.specs.Keeping.{kept_in, Lent, Whole, LaidTo, Laid, Takes, Parts, Closed, After, Paired}
-use Rattle.lay.specs.InsideLaws.{inside_again, inside_closes, inside_unclosed, inside_ends, inside_stuck}
-use Rattle.lay.specs.KeepingLaws.{along_start, along_sub, along_lent, after_comma, after_shut, lays_leaf, lays_lent}
+use Rattle.lay.proofs.InsideLaws.{inside_again, inside_closes, inside_unclosed, inside_ends, inside_stuck}
+use Rattle.lay.proofs.KeepingLaws.{along_start, along_sub, along_lent, after_comma, after_shut, lays_leaf, lays_lent}
 
 pub leaf_laid : (l : List ℕ) (p d : ℕ) (x : Number) (kept row marks : List ℕ) (r : Progress) (kept' marks' : List ℕ) → Lone l p x
     → Takes x kept marks r kept' marks' → Lent kept row marks → (kept_in kept).next ≤ table_words

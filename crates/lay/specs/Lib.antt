@@ -1,11 +1,3 @@
 pub mod Laying
 pub mod Keeping
 pub mod Faults
-pub mod LayLaws
-pub mod LaidLaws
-pub mod LaidRow
-pub mod TallyLaws
-pub mod InsideLaws
-pub mod KeepingLaws
-pub mod FaultLaws
-pub mod ReadLaws

@@ -27,9 +27,9 @@ use Rattle.newick.specs.Meaning.{samples}
 use Rattle.newick.specs.ReadCalls.{tree_in, check17, check18, text_checks, read_checks, reading, row_in}
 use Rattle.newick.specs.Grammar.{sample_bound}
 use Rattle.lay.specs.Laying.{Link, sets, grow, tally, least, laid_row}
-use Rattle.lay.specs.LaidRow.{laid_valid}
+use Rattle.lay.proofs.LaidRow.{laid_valid}
 use Rattle.lay.specs.Faults.{or_at, below_place, due, bad_mark, mark_check}
-use Rattle.lay.specs.FaultLaws.{place18, laid_row_in}
+use Rattle.lay.proofs.FaultLaws.{place18, laid_row_in}
 use Rattle.newick.proofs.FaultLaws.{stands_exactly}
 use Rattle.lay.specs.Keeping.{kept_in}
 use Rattle.reader.specs.Steps.{ReadyAt, Told}

@@ -13,15 +13,14 @@ bare-requires c =
     (study_least _ _ _ c.requires.0, study_most _ _ _ c.requires.0, c.requires.1)
 
 pub loop-i-init : goal.loop-i-init
-loop-i-init c =
-    (
-      omega arith,
-      rw c.bare.ensures (candidates_start c.args.words.now c.args.n c.args.k c.requires.0 _
-          (λ v. get_or_zeros table_words v)),
-      refl,
-      c.bare.auto.out ∙ c.requires.1,
-      c.requires.2,
-    )
+loop-i-init c = (
+  omega arith,
+  rw c.bare.ensures (candidates_start c.args.words.now c.args.n c.args.k c.requires.0 _
+      (λ v. get_or_zeros table_words v)),
+  refl,
+  c.bare.auto.out ∙ c.requires.1,
+  c.requires.2,
+)
 
 pub take_in-requires : goal.take_in-requires
 take_in-requires c =

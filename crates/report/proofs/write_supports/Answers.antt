@@ -1,7 +1,6 @@
 -- `report::write_supports` writes word by word. Assumes nothing.
 use mathlib.Core.Path.{refl}
 use native.Mathlib.Omega.{arith}
-use Rattle.report.specs.Supports.{support_word}
 use Rattle.passes.proofs.Filling.{filling_start, filling_more, filling_end}
 use Rattle.report.proofs.write_supports.Goals as goal
 

@@ -19,7 +19,7 @@ use Rattle.newick.proofs.Complete.{complete}
 use Rattle.newick.proofs.RoundTrip.{row-in}
 use Rattle.newick.proofs.ReadCallLaws.{reading_accepts}
 use Rattle.lay.specs.Laying.{grow, laid_row}
-use Rattle.lay.specs.LaidRow.{laid_valid, laid_groups}
+use Rattle.lay.proofs.LaidRow.{laid_valid, laid_groups}
 
 module _ (n : ℕ) (l out : List ℕ) (e : (reading n l out).verdict ≡ accepted) (t : Tree) (s : Text l t) where
   -- the row that is laid for the text

@@ -16,8 +16,8 @@ use Rattle.scan.specs.declared.Progress.{Progress}
 use Rattle.scan.specs.declared.numbers.Number.{Number}
 use Rattle.newick.specs.Grammar.{sample_bound}
 use Rattle.lay.specs.Laying.{Link, link, sets, Braid, node_of, then_by, grow, spread, tally, least}
-use Rattle.lay.specs.LaidRow.{length_links}
-use Rattle.lay.specs.TallyLaws.{sets_append, tally_append, least_append, length_tally}
+use Rattle.lay.proofs.LaidRow.{length_links}
+use Rattle.lay.proofs.TallyLaws.{sets_append, tally_append, least_append, length_tally}
 use Rattle.lay.specs.Keeping.{Kept, kept_words, kept_in, Lent, Lays, Takes, Parts, Shuts, spread_held, samples_held, Along}
 use Rattle.lay.specs.Keeping.{After}
 

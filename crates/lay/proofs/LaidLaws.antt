@@ -24,8 +24,8 @@ use Rattle.newick.specs.Tree.Tree.{leaf, pair}
 use Rattle.newick.specs.Tree.Forest.{only, more}
 use Rattle.newick.specs.Meaning.{samples, samples_in, times, among, group_of, groups_of, groups_in}
 use Rattle.lay.specs.Laying.{Link, link, Strand, Braid, node_of, next_of, first_of, part_by, then_by, shut_by, grow, spread}
-use Rattle.lay.specs.LayLaws.{is, held_at, keyed, count_last, Fine, FineIn, fine_part, next_grown, grow_few, spread_few, grow_fine}
-use Rattle.lay.specs.LayLaws.{spread_fine}
+use Rattle.lay.proofs.LayLaws.{is, held_at, keyed, count_last, Fine, FineIn, fine_part, next_grown, grow_few, spread_few, grow_fine}
+use Rattle.lay.proofs.LayLaws.{spread_fine}
 use Rattle.newick.proofs.ChildLaws.{one_child}
 
 pub is_self : (x : ℕ) → is x x ≡ 1

@@ -17,7 +17,7 @@ use Rattle.newick.proofs.RoundTrip.{row-in}
 use Rattle.newick.specs.Grammar.{sample_bound}
 use Rattle.lay.specs.Laying.{once_more, tally, lower, least, grow, laid_row}
 use Rattle.lay.specs.Faults.{or_at, below_place, due, bad_mark}
-use Rattle.lay.specs.LaidRow.{laid_groups}
+use Rattle.lay.proofs.LaidRow.{laid_groups}
 
 -- ---- the lowest number
 

@@ -9,9 +9,9 @@ use Rattle.runs.specs.Reports.{Report, reported}
 use Rattle.newick.specs.ReadCalls.{reading}
 use Rattle.newick.specs.RowText.{Wanted, writing}
 use Rattle.arb.specs.Packing.{places, packed, unpacked, unpacked_counts, unpacked_length}
-use Rattle.arb.specs.PackingLaws.{opened_unpacked, added_unpacked, withdrawn_unpacked, reported_unpacked}
-use Rattle.arb.specs.PackingLaws.{judged_unpacked, renumbering_unpacked, comparing_unpacked}
-use Rattle.arb.specs.PackingLaws.{reading_unpacked, writing_unpacked}
+use Rattle.arb.proofs.PackingLaws.{opened_unpacked, added_unpacked, withdrawn_unpacked, reported_unpacked}
+use Rattle.arb.proofs.PackingLaws.{judged_unpacked, renumbering_unpacked, comparing_unpacked}
+use Rattle.arb.proofs.PackingLaws.{reading_unpacked, writing_unpacked}
 use Rattle.writer.specs.Lengths.{SmallWords}
 
 -- what a number and words have to be, where a call for C leaves an outcome

@@ -24,8 +24,8 @@ use Rattle.newick.specs.RowText.{gather}
 use Rattle.newick.proofs.ListedLaws.{count_unique, length_filter, count_gather}
 use Rattle.trees.proofs.ListLaws.{count_same}
 use Rattle.lay.specs.Laying.{Link, sets, Strand, grow, laid_row}
-use Rattle.lay.specs.LayLaws.{is, keyed, under, Fine, grow_few, grow_fine}
-use Rattle.lay.specs.LaidLaws.{is_self, node_in, Reach, Sat, grow_reach, grow_tells, grow_top}
+use Rattle.lay.proofs.LayLaws.{is, keyed, under, Fine, grow_few, grow_fine}
+use Rattle.lay.proofs.LaidLaws.{is_self, node_in, Reach, Sat, grow_reach, grow_tells, grow_top}
 
 -- ---- the words of links
 

@@ -1,0 +1,2 @@
+pub mod PackingLaws
+pub mod DeterminedC
