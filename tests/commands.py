@@ -30,7 +30,7 @@ WRONG = {
     "soak": [["--calls"], ["--calls", "many"], ["--what", "1"], ["1"]],
 }
 EXAMPLE = '#include "arb.h"\n#include <stdio.h>\nint main(void) { printf("%u\\n", ARB_NUMBER(arb_open(1, NULL, 0))); return 0; }\n'
-LISTING = TOP / "crates" / "listing"  # it has files stdin and stdout
+LISTING, REPLAY = (TOP / "crates" / name for name in ("listing", "replay"))  # they have files stdin and stdout
 SAME = "pub fn same(x: u16) -> u16 {\n    x\n}\n"  # a crate of one function
 
 
@@ -99,6 +99,17 @@ def test_soak(trials: Trials, folder: Path) -> None:
         trials.expect(f"{what} that differ", (1, False), (status, "agree" in out))
 
 
+def test_failed_moves(trials: Trials, folder: Path) -> None:
+    """Each program ends with status 1 where it cannot write or read, and says why."""
+    for crate in (LISTING, REPLAY):
+        program = [TESTS / "run-program", crate / "out" / crate.name]
+        with open("/dev/full", "wb") as full:
+            status, _, err = run(*program, given=(crate / "stdin").read_bytes(), out=full)
+        trials.expect(f"{crate.name}: a full device", (1, True), (status, "No space left on device" in err))
+        status, out, err = run("sh", "-c", '"$0" "$1" <.', *program, folder=folder)
+        trials.expect(f"{crate.name}: a folder to read", (1, "", True), (status, out, "Is a directory" in err))
+
+
 def write_edit(folder: Path, name: str, old: str) -> None:
     """An edit of the crate `same`, of this text."""
     (folder / "crates" / "same" / "must-fail" / f"{name}.edit").write_text(f"# a comment\nfile: src/lib.rt\nold: {old}\nnew: 0\n")
@@ -123,7 +134,7 @@ def main() -> int:
     """Runs every test; the status."""
     trials = Trials()
     test_usage(trials)
-    for test in (test_missing, test_soak, test_from_any_folder, test_edits):  # test_soak builds the programs
+    for test in (test_missing, test_soak, test_from_any_folder, test_failed_moves, test_edits):  # test_soak builds the programs
         with tempfile.TemporaryDirectory() as name:
             test(trials, Path(name).resolve())
     return trials.end()
