@@ -198,7 +198,7 @@ class Tree:
         kit.mkdir()
         if not rt:
             return str(kit)
-        write_script(kit / "rt", f'echo "${{PWD##*/}}: $*" >>'{self.top}/asked'\n{rt}')
+        write_script(kit / "rt", f'echo "${{PWD##*/}}: $*" >>"{self.top}/asked"\n{rt}')
         return f"{kit}{os.pathsep}{os.environ['PATH']}"
 
     def list(self, rt: str) -> Came:
