@@ -1,3 +1,4 @@
 pub mod Calls
 pub mod Walks
 pub mod Thin
+pub mod Room
