@@ -10,7 +10,6 @@ count_run-requires c =
 
 pub agreements-requires : goal.agreements-requires
 agreements-requires c =
-    let q = c.requires.2.tied.standard in
     (c.requires.0, c.requires.1.ranked.sizes, c.requires.1.starts, search rules, search rules)
 
 pub renew-requires : goal.renew-requires

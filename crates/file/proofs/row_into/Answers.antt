@@ -57,11 +57,6 @@ loop-i-preserved c =
           (sym (slot_word c.args.bytes.now c.args.n c.args.j l.i (omega (arith, room (goal.at.loop-i-preserved c).In-loop-i))))),
     )
 
--- NO GOAL same-length
--- same_length c =
---     let a : tie.Start invariant-loop decreases-loop = search rules in
---     omega (arith, c.before.loop.invariant.1.long, length_slot a.args.bytes.now a.args.n a.args.j)
-
 pub returns : goal.returns
 returns c =
     let l = c.loop-i in

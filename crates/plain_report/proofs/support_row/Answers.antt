@@ -10,17 +10,14 @@ use Rattle.plain_report.proofs.support_row.Goals as goal
 
 pub holders-requires : goal.holders-requires
 holders-requires c =
-    let a = c.args in
     (c.requires.0, c.requires.1, length-replicate {A = ℕ} 1024 0)
 
 pub nodes-requires : goal.nodes-requires
 nodes-requires c =
-    let a = c.args in
     omega (arith, c.requires.1.valid.words, c.requires.1.valid.least)
 
 pub write_supports-requires : goal.write_supports-requires
 write_supports-requires c =
-    let a = c.args in
     (omega (arith, c.nodes.ensures, few _ _ (standard_falls _ _ c.requires.1)), omega (arith, study_few _ _ _ c.requires.0))
 
 pub returns : goal.returns
