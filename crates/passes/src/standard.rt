@@ -8,7 +8,7 @@ ghost use Rattle.trees.specs.Tables.{table_words, Most, rank_in};
 ghost use Rattle.trees.specs.Linear.{filler_zero, rising, ranked};
 
 use crate::pass::{TABLE, Table, rank, ranks};
-use judge::{Answer, ROOT_MARK, nodes, parent};
+use judge::{ROOT_MARK, nodes, parent};
 
 // The samples that the last inner node has at least.
 const SMALLEST: u16 = 2;
@@ -48,10 +48,7 @@ fn filler_zero(n: usize, row: &[u16]) -> bool
     requires { (length row.now ≡ row_words n) × (nodes row.now < row_words n) }
     ensures { result ≡ filler_zero n row.now }
 {
-    let Answer::Accepted = judge::filler(n, row) else {
-        return false;
-    };
-    true
+    judge::filler(n, row).is_ok()
 }
 
 // Whether each rank from n to below last is less than the next.
