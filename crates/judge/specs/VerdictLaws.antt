@@ -66,9 +66,13 @@ place_in _ = 0
 refusal_same : (x y : Refusal) → x.reason ≡ y.reason → x.place ≡ y.place → x ≡ y
 refusal_same x y e f = search rules
 
-pub verdict_injective : (a b : Answer) → verdict a ≡ verdict b → a ≡ b
+-- no two refusals have one number and one place
+pub refusal_injective : (r s : Refusal) → verdict (Err r) ≡ verdict (Err s) → r ≡ s
 unfolding number_in place_in
+refusal_injective r s e = refusal_same r s (number_injective r.reason s.reason (ap number_in e)) (ap place_in e)
+
+pub verdict_injective : (a b : Answer) → verdict a ≡ verdict b → a ≡ b
 verdict_injective (Ok _) (Ok _) e = refl
 verdict_injective (Ok _) (Err r) e = cc
 verdict_injective (Err r) (Ok _) e = cc
-verdict_injective (Err r) (Err s) e = ap Err (refusal_same r s (number_injective r.reason s.reason (ap number_in e)) (ap place_in e))
+verdict_injective (Err r) (Err s) e = ap Err (refusal_injective r s e)
