@@ -37,6 +37,6 @@ pub returns : goal.returns
 returns c =
     let a = c.args in
     let d = mark_some a.words.now a.v a.row.now _ (omega arith) (rw c.parent.ensures at c.if-words-parent.false) in (
-      rw (d, ← c.wide.ensures.0) c.width.ensures,
-      omega (arith, c.width.ensures, decimal_long 4 c.wide.result (omega (arith, c.wide.ensures.1))),
+      rw (d, ← c.from.ensures) c.width.ensures,
+      omega (arith, c.width.ensures, decimal_long 4 c.from.result (omega arith)),
     )

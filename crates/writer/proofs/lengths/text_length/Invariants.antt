@@ -6,6 +6,3 @@ use Rattle.writer.proofs.lengths.text_length.Given as goal
 
 abbrev pub invariant-loop-v : goal.invariant-loop-v
 invariant-loop-v l = BytesLeft l.n l.row (wanted_by l.words) l.v l.bytes
-
-abbrev pub decreases-loop-v : goal.decreases-loop-v
-decreases-loop-v l = nodes l.row - l.v

@@ -34,8 +34,8 @@ bounds-words-c c = let h = inside (goal.at.bounds-words-c c).Else-c-n in search 
 pub put_number-requires : goal.put_number-requires
 put_number-requires c =
     let room = rw (behind_some c.args.words.now c.args.c c.args.n c.if-c-n.false) at c.requires.1 in
-    omega (arith, room, ap (λ (x : ℕ). length (decimal x)) c.wide.ensures.0)
+    omega (arith, room, ap (λ (x : ℕ). length (decimal x)) c.from.ensures)
 
 pub returns : goal.returns
 returns c =
-    rw (behind_some c.args.words.now c.args.c c.args.n c.if-c-n.false, ← c.wide.ensures.0) c.put_number.ensures
+    rw (behind_some c.args.words.now c.args.c c.args.n c.if-c-n.false, ← c.from.ensures) c.put_number.ensures

@@ -3,7 +3,7 @@ use mathlib.Core.Path.{refl}
 use Rattle.writer.proofs.texts.put_row.Goals as goal
 
 pub children_chained-requires : goal.children_chained-requires
-children_chained-requires c = (c.requires.0, refl, refl)
+children_chained-requires c = (c.requires.0, refl)
 
 pub put_whole-requires : goal.put_whole-requires
 put_whole-requires c =

@@ -6,6 +6,3 @@ use Rattle.writer.proofs.texts.root.Given as goal
 
 abbrev pub invariant-loop-v : goal.invariant-loop-v
 invariant-loop-v l = RootAhead l.n l.row l.v
-
-abbrev pub decreases-loop-v : goal.decreases-loop-v
-decreases-loop-v l = nodes l.row - l.v
