@@ -1,6 +1,4 @@
 -- `writer::lengths::text_length` adds up what the nodes add: the nodes that are left decide. Assumes nothing.
-use Prim.Native.Nat.{◌-◌}
-use Rattle.trees.specs.Rows.{nodes}
 use Rattle.writer.specs.Lengths.{wanted_by, BytesLeft}
 use Rattle.writer.proofs.lengths.text_length.Given as goal
 

@@ -12,7 +12,7 @@ use Rattle.newick.specs.Bytes.{opening_byte}
 use Rattle.writer.specs.Nesting.{behind, in_pair, kids_in, table_text, table_child}
 use Rattle.writer.specs.NestingLaws.{nest_number, nest_pair}
 use Rattle.writer.proofs.PuttingLaws.{charted_word, open_room, putting_start, putting_text, putting_mark}
-use Rattle.writer.proofs.PuttingLaws.{putting_room, putting_less, putting_close, putting_again}
+use Rattle.writer.proofs.PuttingLaws.{putting_room, putting_close, putting_again}
 use Rattle.writer.proofs.texts.+put_text.Goals.{Else-left-v, At-loop-c}
 use Rattle.writer.proofs.texts.+put_text.Goals as goal
 
@@ -72,10 +72,6 @@ returns-then-c-eq0 t c =
 
 pub put_byte-e-requires-in-loop-c : goal.put_byte-e-requires-in-loop-c
 put_byte-e-requires-in-loop-c t c = putting_room c.loop-c.invariant (put_then c.put_text-e.ensures c.put_mark-e.ensures)
-
-pub loop-c-smaller : goal.loop-c-smaller
-loop-c-smaller t c =
-    putting_less c.loop-c.invariant (put_then c.put_text-e.ensures c.put_mark-e.ensures) c.put_byte-e-in-loop-c.ensures
 
 pub loop-c-preserved : goal.loop-c-preserved
 loop-c-preserved t c =

@@ -1,6 +1,4 @@
 -- `writer::texts::root` finds the root: it is at the place or ahead of it. Assumes nothing.
-use Prim.Native.Nat.{◌-◌}
-use Rattle.trees.specs.Rows.{nodes}
 use Rattle.writer.specs.Putting.{RootAhead}
 use Rattle.writer.proofs.texts.root.Given as goal
 
