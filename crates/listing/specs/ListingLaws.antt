@@ -1,6 +1,6 @@
 -- Each slot's answer decides, or the rest does; what the code makes of a file stands for what is listed; the lines by number. Assumes nothing.
 use Prim.Native.Nat.{ℕ, zero, suc, ◌+◌, ◌-◌, ◌≤◌, ◌<◌}
-use Rattle.std.specs.Prelude.{◌≡◌, length, get_or, take}
+use Rattle.std.specs.Prelude.{◌≡◌, length, get_or, take, None}
 use Rattle.std.proofs.Math.Path.{refl, ap}
 use Rattle.std.proofs.Common.{sym, subst, ◌∙◌, length-take, length-append, take_all, get_or-take}
 use mathlib.Core.List.{List, [], ◌∷◌, ◌++◌}
@@ -21,8 +21,7 @@ use Rattle.runs.proofs.ReportLaws.{reported_rows, reported_standard, reported_le
 use Rattle.judge.specs.Verdicts.{verdict}
 use Rattle.judge.specs.declared.Answer.{Answer}
 use Rattle.judge.specs.declared.Answer.TheVariants.{Accepted, Refused as Answer-as-Refused}
-use Rattle.file.specs.Files.{file_of, file_bytes, word_at, slot_identifier}
-use Rattle.file.specs.declared.File.TheVariants.{Bad, Good}
+use Rattle.file.specs.Files.{good, file_of, file_bytes, word_at, slot_identifier}
 use Rattle.text.specs.Lines.{refusal_line, head_line, node_line, tree_lines}
 use Rattle.listing.specs.Listing.{Listed, refusal, study_words, unless, first_refused, slot_call, reports, adds_and_reports}
 use Rattle.listing.specs.Listing.{listed_file, listed_of, listed, lines_of}
@@ -72,7 +71,7 @@ module _ (n k : ℕ) (w : List ℕ) (call : ℕ → Call) (j : ℕ) (h : j < k) 
 
 -- ---- opening
 
-pub listed_bad : (bytes : List ℕ) → file_of bytes ≡ Bad → listed bytes ≡ refusal 15 0 0
+pub listed_bad : (bytes : List ℕ) → file_of bytes ≡ None → listed bytes ≡ refusal 15 0 0
 unfolding listed
 listed_bad bytes e = ap (listed_of bytes) e
 
@@ -82,7 +81,7 @@ unfolding opened open_checks
 same_open n w v e = rw e
 
 -- words of any content do as well as zeros
-pub listed_good : (bytes : List ℕ) (n k : ℕ) (w : List ℕ) (a : Answer) → file_of bytes ≡ Good n k → length w ≡ study_words → verdict a ≡ (opened n w).verdict
+pub listed_good : (bytes : List ℕ) (n k : ℕ) (w : List ℕ) (a : Answer) → file_of bytes ≡ good n k → length w ≡ study_words → verdict a ≡ (opened n w).verdict
     → listed bytes ≡ unless (verdict a) 0 (adds_and_reports n k (opened n w).words (tabulate k (slot_call bytes n) 0) 0)
 unfolding listed listed_file
 listed_good bytes n k w a e l v = ap (listed_of bytes) e ∙ go a (v ∙ same)
@@ -95,7 +94,7 @@ listed_good bytes n k w a e l v = ap (listed_of bytes) e ∙ go a (v ∙ same)
     go Accepted q = rw (← q, opened_words n w (same ∙ sym q), opened_words n (zeros study_words) (sym q), l, length-replicate)
     go (Answer-as-Refused number place) q = rw (← q) refl
 
-module _ (bytes : List ℕ) {n k : ℕ} (w : List ℕ) (a : Answer) (e : file_of bytes ≡ Good n k) (l : length w ≡ study_words)
+module _ (bytes : List ℕ) {n k : ℕ} (w : List ℕ) (a : Answer) (e : file_of bytes ≡ good n k) (l : length w ≡ study_words)
     (o : verdict a ≡ (opened n w).verdict) where
   pub load_stops : {x y z : ℕ} (v : List ℕ) → told_of a 0 n k ≡ Refused x y z → (goes_on (told_of a 0 n k) v ≡ listed bytes) × Loaded (told_of a 0 n k) v
   load_stops v q =

@@ -9,7 +9,7 @@ ghost use Rattle.file.specs.Files.{file_bytes};
 ghost use Rattle.listing.specs.Listing.{study_words, slot_call, reports, adds_and_reports, listed};
 ghost use Rattle.listing.specs.Told.{told_of, goes_on, Loaded, shows, row_room, Printable};
 
-use file::{File, file_of, identifier_of, row_into};
+use file::{file_of, identifier_of, row_into};
 use judge::Answer;
 use report::report_formed;
 use study::{add_formed, open};
@@ -30,13 +30,6 @@ pub const ROW_ROOM: usize = 1024;
 pub enum Told {
     Refused(usize, usize, usize),
     Ready(usize, usize),
-}
-
-// Room for a row.
-pub fn row_room() -> [u16; ROW_ROOM]
-    ensures { row_room ≡ length result }
-{
-    [0; ROW_ROOM]
 }
 
 // What an answer to a call for a slot comes to.
@@ -67,7 +60,7 @@ fn add_slot(bytes: &[u8], n: usize, j: usize, words: &mut [u16]) -> Answer
     ensures words { words.new ≡ (called words.old (slot_call bytes.now n j)).words }
     ensures kept { Kept study_words n words.new }
 {
-    let mut row = row_room();
+    let mut row = [0; ROW_ROOM];
     add_row(bytes, n, j, words, &mut row[..2 * n])
 }
 
@@ -77,13 +70,11 @@ fn add_slots(bytes: &[u8], n: usize, k: usize, words: &mut [u16]) -> Told
     ensures words_after { goes_on result words.new ≡ adds_and_reports n k words.old (tabulate k (slot_call bytes.now n) 0) 0 }
     ensures loaded { Loaded result words.new }
 {
-    let mut j: usize = 0;
-    while j < k {
+    for j in 0..k {
         let told = told_of(add_slot(bytes, n, j, words), j, n, k);
         let Told::Ready(_, _) = told else {
             return told;
         };
-        j += 1;
     }
     Told::Ready(n, k)
 }
@@ -94,14 +85,14 @@ fn load(bytes: &[u8], words: &mut [u16]) -> Told
     ensures words_after { goes_on result words.new ≡ listed bytes.now }
     ensures loaded { Loaded result words.new }
 {
-    let File::Good(n, k) = file_of(bytes) else {
+    let Some(file) = file_of(bytes) else {
         return Told::Refused(BAD_FILE, 0, 0);
     };
-    let told = told_of(open(n, words), 0, n, k);
+    let told = told_of(open(file.samples, words), 0, file.samples, file.runs);
     let Told::Ready(_, _) = told else {
         return told;
     };
-    add_slots(bytes, n, k, words)
+    add_slots(bytes, file.samples, file.runs, words)
 }
 
 // The report of a study that is ready.

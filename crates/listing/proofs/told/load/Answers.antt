@@ -10,11 +10,11 @@ use Rattle.listing.proofs.told.load.Goals.{In-Ready}
 use Rattle.listing.proofs.told.load.Goals as goal
 
 -- the study is open, and the slots decide
-goes : (c : In-Ready) → let a = c.args in let n = c.in-Good.n in let k = c.in-Good.k in let w = c.«open».new.words in
+goes : (c : In-Ready) → let a = c.args in let n = c.in-Some.file.samples in let k = c.in-Some.file.runs in let w = c.«open».new.words in
     Kept study_words n w × (adds_and_reports n k w (tabulate k (slot_call a.bytes.now n) 0) 0 ≡ listed a.bytes.now)
 goes c =
     let a = c.args in
-    load_goes a.bytes.now a.words.now c.«open».result (sym c.file_of.ensures ∙ c.in-Good.is) c.requires c.«open».ensures.answer _
+    load_goes a.bytes.now a.words.now c.«open».result (sym c.file_of.ensures ∙ c.in-Some.is) c.requires c.«open».ensures.answer _
     (sym c.told_of-told.ensures ∙ c.in-Ready.is) c.«open».ensures.words
 
 pub returns-in_default : goal.returns-in_default
@@ -24,13 +24,13 @@ returns-in_default c =
 pub returns-in_default-told : goal.returns-in_default-told
 returns-in_default-told c =
     let a = c.args in
-    let s = load_stops a.bytes.now a.words.now c.«open».result (sym c.file_of.ensures ∙ c.in-Good.is) c.requires c.«open».ensures.answer _
+    let s = load_stops a.bytes.now a.words.now c.«open».result (sym c.file_of.ensures ∙ c.in-Some.is) c.requires c.«open».ensures.answer _
     (sym c.told_of-told.ensures ∙ c.in_default-told.is) in
     record { words_after = rw c.told_of-told.ensures s.0; loaded = rw c.told_of-told.ensures s.1 }
 
 pub add_slots-requires : goal.add_slots-requires
 add_slots-requires c =
-    let long = good_length c.args.bytes.now c.in-Good.n c.in-Good.k (sym c.file_of.ensures ∙ c.in-Good.is) in
+    let long = good_length c.args.bytes.now c.in-Some.file.samples c.in-Some.file.runs (sym c.file_of.ensures ∙ c.in-Some.is) in
     ((goes (goal.at.add_slots-requires c).In-Ready).0, omega (arith, long))
 
 pub returns : goal.returns
