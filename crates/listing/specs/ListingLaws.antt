@@ -1,6 +1,6 @@
 -- Each slot's answer decides, or the rest does; what the code makes of a file stands for what is listed; the lines by number. Assumes nothing.
 use Prim.Native.Nat.{ℕ, zero, suc, ◌+◌, ◌-◌, ◌≤◌, ◌<◌}
-use Rattle.std.specs.Prelude.{◌≡◌, length, get_or, take, None}
+use Rattle.std.specs.Prelude.{◌≡◌, length, get_or, take, Some, None, Ok, Err}
 use Rattle.std.proofs.Math.Path.{refl, ap}
 use Rattle.std.proofs.Common.{sym, subst, ◌∙◌, length-take, length-append, take_all, get_or-take}
 use mathlib.Core.List.{List, [], ◌∷◌, ◌++◌}
@@ -54,12 +54,12 @@ handed_on t x h = let p = err_from_is_err_and t h in rw (p.1, p.2) refl
 -- a refusal is passed on, and nothing comes next
 pub told_stops : (a : Answer) (slot : ℕ) (z : Sizes) {x : Refused} (next : Listed) (w : List ℕ) → told_of a slot z ≡ Err x
     → (goes_on (Err x) w ≡ unless (verdict a) slot next) × Loaded (Err x) w
-told_stops (Ok _) slot z {x} next w e = absurd (◌≡◌-apart e)
+told_stops (Ok _) slot z {x} next w e = let q : ◌≡◌ {A = ℕ} 0 1 = cc in absurd (omega arith)
 told_stops (Err r) slot z {x} next w e = (rw (← e) refl, tt)
 
 pub told_goes : (a : Answer) (slot : ℕ) (z : Sizes) {y : Sizes} → told_of a slot z ≡ Ok y → (verdict a ≡ accepted) × (y ≡ z)
 told_goes (Ok _) slot z e = (refl, cc)
-told_goes (Err r) slot z e = absurd (◌≡◌-apart e)
+told_goes (Err r) slot z e = let q : ◌≡◌ {A = ℕ} 0 1 = cc in absurd (omega arith)
 
 module _ (z : Sizes) (w : List ℕ) (call : ℕ → Call) (j : ℕ) (h : j < z.runs) (a : Answer) (e : verdict a ≡ (called w (call j)).verdict) where
   pub adds_stops : {x : Refused} (v : List ℕ) → told_of a j z ≡ Err x
