@@ -12,8 +12,7 @@ use Rattle.compare.specs.Comparisons.{Compared, comparison}
 use Rattle.compare.specs.ComparisonLaws.{comparison_injective}
 use Rattle.newick.specs.ReadCalls.{reading}
 use Rattle.newick.specs.RowText.{Wanted, writing}
-use Rattle.writer.specs.declared.calls.Written.{Written}
-use Rattle.writer.specs.Writings.{written_verdict}
+use Rattle.writer.specs.Writings.{Written, written_verdict}
 use Rattle.writer.specs.WritingsLaws.{written_injective}
 
 pub judge_determined : (n : ℕ) (row : List ℕ) (a b : Answer) → verdict a ≡ judged n row → verdict b ≡ judged n row → a ≡ b

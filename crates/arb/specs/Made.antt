@@ -10,7 +10,7 @@ use Rattle.judge.specs.Verdicts.{Answer, verdict}
 use Rattle.compare.specs.Comparisons.{Compared, comparison}
 use Rattle.newick.specs.ReadCalls.{reading}
 use Rattle.newick.specs.RowText.{Wanted, writing}
-use Rattle.writer.specs.declared.calls.Written.{Written}
+use Rattle.writer.specs.Writings.{Written}
 use Rattle.arb.specs.Determined.{Leaves, Reports, Fills}
 
 -- calls made one after another on words w, where `One` is what one call promises: what they gave back, and the words z in the end
