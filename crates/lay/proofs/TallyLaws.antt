@@ -1,6 +1,5 @@
 -- What has been counted, found and linked over one list and then over another. Assumes nothing.
-use Rattle.std.specs.Prelude.{ℕ, suc, ◌≡◌, refl, List, [], ◌∷◌, ◌++◌, cond, ltb, length, get_or, set}
-use Rattle.std.proofs.Common.{◌∙◌, length-set}
+use Rattle.std.specs.Prelude.{ℕ, suc, ◌≡◌, refl, List, [], ◌∷◌, ◌++◌, cond, ltb, get_or, set}
 use Rattle.lay.specs.Laying.{Link, sets, once_more, tally, lower, least}
 
 pub sets_append : (ls ks : List Link) (row : List ℕ) → sets (ls ++ ks) row ≡ sets ks (sets ls row)
@@ -17,8 +16,3 @@ pub least_append : (n : ℕ) (xs ys : List ℕ) (b : ℕ) → least n (xs ++ ys)
 unfolding least
 least_append n [] ys b = refl
 least_append n (x ∷ xs) ys b = least_append n xs ys (cond (ltb x n) b (lower b x))
-
-pub length_tally : (xs marks : List ℕ) → length (tally xs marks) ≡ length marks
-unfolding tally
-length_tally [] marks = refl
-length_tally (x ∷ xs) marks = length_tally xs (set marks x (once_more (get_or marks x 0))) ∙ length-set marks x (once_more (get_or marks x 0))

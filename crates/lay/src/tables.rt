@@ -1,7 +1,6 @@
 // The row and the marks of the samples, which are lent to a reading.
-ghost use Rattle.std.specs.Prelude.{◌≡◌, ◌+◌, ◌<◌, ◌≤◌, length, get_or, set};
-ghost use Rattle.trees.specs.Checks.{most_samples};
-ghost use Rattle.trees.specs.Tables.{table_words};
+ghost use Rattle.std.specs.Prelude.{◌≡◌, ◌+◌, ◌<◌, ◌≤◌, get_or, set};
+ghost use Rattle.trees.specs.Rows.{root_mark};
 ghost use Rattle.newick.specs.Grammar.{sample_bound};
 ghost use Rattle.lay.specs.Laying.{once_more};
 
@@ -24,21 +23,16 @@ const REPEATED: u8 = 2;
 
 // Sample x stands once more.
 pub(crate) fn mark(x: usize, marks: &mut Marks)
-    requires { length marks.old ≡ most_samples }
     ensures { marks.new ≡ set marks.old x (once_more (get_or marks.old x 0)) }
 {
     if x < MARKS {
-        if marks[x] == 0 {
-            marks[x] = ONCE;
-        } else {
-            marks[x] = REPEATED;
-        }
+        marks[x] = if marks[x] == 0 { ONCE } else { REPEATED };
     }
 }
 
-// The parent of a node, where it has a word.
-pub(crate) fn link(child: usize, up: usize, row: &mut Row)
-    requires { (child < sample_bound) × (up ≤ table_words) × (length row.old ≡ table_words) }
+// The parent of a node, or the mark of the topmost one, where the node has a word.
+pub fn link(child: usize, up: usize, row: &mut Row)
+    requires { (child < sample_bound) × (up ≤ root_mark) }
     ensures { row.new ≡ set row.old (child + 1) up }
 {
     let w = child + 1;
