@@ -16,6 +16,7 @@ use Rattle.newick.specs.Grammar.{sample_bound}
 use Rattle.lay.specs.Laying.{Link, link, sets, Braid, node_of, then_by, grow, spread, tally, least}
 use Rattle.lay.proofs.TallyLaws.{sets_append, tally_append, least_append}
 use Rattle.lay.specs.declared.keep.Kept.{Kept}
+use Rattle.lay.specs.declared.tables.Standing.{Standing}
 use Rattle.lay.specs.Keeping.{Lays, Takes, Parts, Shuts, spread_held, samples_held, Along}
 use Rattle.lay.specs.Keeping.{After}
 
@@ -31,7 +32,7 @@ unfolding samples
 samples_hold nothing t = refl
 samples_hold (some f) t = refl
 
-pub along_start : (c : Kept) (row marks : List ℕ) → 1 ≤ c.next → c.next ≤ table_words → Along nothing c row marks 0 c row marks
+pub along_start : (c : Kept) (row : List ℕ) (marks : List Standing) → 1 ≤ c.next → c.next ≤ table_words → Along nothing c row marks 0 c row marks
 unfolding sets tally least weigh
 along_start c row marks h k = record {
   links = refl;
@@ -45,7 +46,8 @@ along_start c row marks h k = record {
   below = λ x i. absurd (omega arith);
 }
 
-pub along_sub : (h : Held) (t : Tree) (c : Kept) (row₀ marks₀ : List ℕ) (v : ℕ) (d g : Kept) (row marks row' marks' : List ℕ)
+pub along_sub : (h : Held) (t : Tree) (c : Kept) (row₀ : List ℕ) (marks₀ : List Standing) (v : ℕ) (d g : Kept) (row : List ℕ) (marks : List Standing) (row' : List ℕ)
+    (marks' : List Standing)
     → Along h c row₀ marks₀ v d row marks → Lays t d row marks g row' marks' → After (hold h t) c row₀ marks₀ v g row' marks'
 along_sub h t c row₀ marks₀ v d g row marks row' marks' A L =
     let b = spread_held h c.next in
@@ -78,7 +80,7 @@ unfolding sets
 last_link ls c p row₀ row e =
     ap (λ (z : List ℕ). set z (c + 1) p) e ∙ ap (λ (i : ℕ). set (sets ls row₀) i p) (add-one c) ∙ sym (sets_append ls (link c p ∷ []) row₀)
 
-module _ (f : Forest) (c : Kept) (row₀ marks₀ : List ℕ) (v : ℕ) (kept : Kept) (row marks : List ℕ)
+module _ (f : Forest) (c : Kept) (row₀ : List ℕ) (marks₀ : List Standing) (v : ℕ) (kept : Kept) (row : List ℕ) (marks : List Standing)
     (A : After f c row₀ marks₀ v kept row marks) where
   abbrev b : Braid
   b = spread f c.next
@@ -132,7 +134,7 @@ module _ (f : Forest) (c : Kept) (row₀ marks₀ : List ℕ) (v : ℕ) (kept : 
 
 -- ---- a sample
 
-pub lays_leaf : (x : ℕ) (kept : Kept) (marks : List ℕ) (kept' : Kept) (marks' row : List ℕ) → Takes x kept marks kept' marks'
+pub lays_leaf : (x : ℕ) (kept : Kept) (marks : List Standing) (kept' : Kept) (marks' : List Standing) (row : List ℕ) → Takes x kept marks kept' marks'
     → x < sample_bound → kept.next ≤ table_words → Lays (leaf x) kept row marks kept' row marks'
 unfolding grow samples sets tally least weigh
 lays_leaf x kept marks kept' marks' row T h k = record {

@@ -15,12 +15,13 @@ use Rattle.scan.specs.declared.Stop.{Stop}
 use Rattle.scan.specs.declared.numbers.Number.{Number}
 use Rattle.scan.specs.Scanning.{Lone, Opens, Stuck}
 use Rattle.lay.specs.declared.keep.Kept.{Kept}
+use Rattle.lay.specs.declared.tables.Standing.{Standing}
 use Rattle.lay.proofs.LayLaws.{grow_few, next_grown}
 use Rattle.lay.specs.Keeping.{LaidTo, Laid, Takes, Parts, Closed, After, Paired}
 use Rattle.lay.proofs.InsideLaws.{inside_again, inside_closes, inside_unclosed, inside_ends, inside_stuck}
 use Rattle.lay.proofs.KeepingLaws.{along_start, along_sub, after_comma, after_shut, lays_leaf}
 
-pub leaf_laid : (l : List ℕ) (p d : ℕ) (x : Number) (kept : Kept) (row marks : List ℕ) (kept' : Kept) (marks' : List ℕ) → Lone l p x
+pub leaf_laid : (l : List ℕ) (p d : ℕ) (x : Number) (kept : Kept) (row : List ℕ) (marks : List Standing) (kept' : Kept) (marks' : List Standing) → Lone l p x
     → Takes x.value kept marks kept' marks' → kept.next ≤ table_words → LaidTo l p d kept row marks x.end kept' row marks'
 leaf_laid l p d x kept row marks kept' marks' h T k = record {
   whole = record {
@@ -33,7 +34,7 @@ leaf_laid l p d x kept row marks kept' marks' h T k = record {
   lays = lays_leaf x.value kept marks kept' marks' row T h.small k;
 }
 
-pub loop_start : (l : List ℕ) (p d a : ℕ) (kept : Kept) (row marks : List ℕ) → Opens l p d a → 1 ≤ kept.next → kept.next ≤ table_words
+pub loop_start : (l : List ℕ) (p d a : ℕ) (kept : Kept) (row : List ℕ) (marks : List Standing) → Opens l p d a → 1 ≤ kept.next → kept.next ≤ table_words
     → Paired l p d kept row marks (a + 1) 0 kept row marks
 loop_start l p d a kept row marks s h k = record {
   some = s.some;
@@ -41,13 +42,13 @@ loop_start l p d a kept row marks s h k = record {
   along = along_start kept row marks h k;
 }
 
-module _ (l : List ℕ) (p d : ℕ) (kept₀ : Kept) (row₀ marks₀ : List ℕ) (j v : ℕ) (kept : Kept) (row marks : List ℕ)
+module _ (l : List ℕ) (p d : ℕ) (kept₀ : Kept) (row₀ : List ℕ) (marks₀ : List Standing) (j v : ℕ) (kept : Kept) (row : List ℕ) (marks : List Standing)
     (P : Paired l p d kept₀ row₀ marks₀ j v kept row marks) where
   pub loop_stops : (q : ℕ) → Stuck l j (d - 1) q → Stuck l p d q
   loop_stops q s = inside_stuck l p d j q P.some P.inside s
 
   -- after a subtree
-  module _ (e : ℕ) (kept₁ : Kept) (row₁ marks₁ : List ℕ) (L : LaidTo l j (d - 1) kept row marks e kept₁ row₁ marks₁) where
+  module _ (e : ℕ) (kept₁ : Kept) (row₁ : List ℕ) (marks₁ : List Standing) (L : LaidTo l j (d - 1) kept row marks e kept₁ row₁ marks₁) where
     abbrev f : Forest
     f = hold P.inside.held L.whole.tree
 

@@ -12,6 +12,8 @@ use Rattle.newick.specs.Bytes.{closing_byte}
 use Rattle.scan.specs.declared.Stop.{Stop}
 use Rattle.scan.specs.Scanning.{from, Fresh, Marked, Closes, Stuck}
 use Rattle.lay.specs.declared.keep.Kept.{Kept}
+use Rattle.lay.specs.declared.tables.Standing.{Standing}
+use Rattle.lay.specs.declared.tables.Standing.TheVariants.{Never}
 use Rattle.lay.specs.Laying.{sets, Braid, node_of, next_of, part_by, grow, spread, once_more, tally, lower, least}
 
 -- ---- a subtree
@@ -25,7 +27,7 @@ pub record Whole (l : List ℕ) (p d e : ℕ) : Type 0 where
   pub goes : (k : Stack) → depth k + d ≡ most_open → from l p (want k) ≡ from l e (measured k tree)
 
 -- what a tree adds to what is kept, to a row and to marks
-pub record Lays (t : Tree) (c : Kept) (row marks : List ℕ) (g : Kept) (row' marks' : List ℕ) : Type 0 where
+pub record Lays (t : Tree) (c : Kept) (row : List ℕ) (marks : List Standing) (g : Kept) (row' : List ℕ) (marks' : List Standing) : Type 0 where
   pub links : row' ≡ sets (grow t c.next).links row
   pub stands : marks' ≡ tally (samples t) marks
   pub root : g.root ≡ (grow t c.next).root
@@ -36,24 +38,24 @@ pub record Lays (t : Tree) (c : Kept) (row marks : List ℕ) (g : Kept) (row' ma
   pub below : (x : ℕ) → 1 ≤ times x (samples t) → x < sample_bound
 
 -- a subtree is read and laid
-pub record LaidTo (l : List ℕ) (p d : ℕ) (kept : Kept) (row marks : List ℕ) (e : ℕ) (kept' : Kept) (row' marks' : List ℕ) : Type 0 where
+pub record LaidTo (l : List ℕ) (p d : ℕ) (kept : Kept) (row : List ℕ) (marks : List Standing) (e : ℕ) (kept' : Kept) (row' : List ℕ) (marks' : List Standing) : Type 0 where
   pub whole : Whole l p d e
   pub lays : Lays whole.tree kept row marks kept' row' marks'
 
 -- it is, or no subtree goes on
-abbrev pub Laid : List ℕ → ℕ → ℕ → Kept → List ℕ → List ℕ → Result ℕ Stop → Kept → List ℕ → List ℕ → Type 0
+abbrev pub Laid : List ℕ → ℕ → ℕ → Kept → List ℕ → List Standing → Result ℕ Stop → Kept → List ℕ → List Standing → Type 0
 Laid l p d kept row marks (Ok e) kept' row' marks' = LaidTo l p d kept row marks e kept' row' marks'
 Laid l p d kept row marks (Err q) kept' row' marks' = Stuck l p d q.at
 
 -- ---- the steps
 
 -- a sample
-pub record Takes (x : ℕ) (kept : Kept) (marks : List ℕ) (kept' : Kept) (marks' : List ℕ) : Type 0 where
+pub record Takes (x : ℕ) (kept : Kept) (marks : List Standing) (kept' : Kept) (marks' : List Standing) : Type 0 where
   pub root : kept'.root ≡ x
   pub next : kept'.next ≡ kept.next
   pub large : kept'.large ≡ cond (ltb x most_samples) kept.large
       (lower kept.large x)
-  pub stands : marks' ≡ set marks x (once_more (get_or marks x 0))
+  pub stands : marks' ≡ set marks x (once_more (get_or marks x Never))
 
 -- a comma in a pair that has the node v, or 0 for none; after it the node is r
 pub record Parts (v : ℕ) (kept : Kept) (row : List ℕ) (r : ℕ) (kept' : Kept) (row' : List ℕ) : Type 0 where
@@ -103,7 +105,7 @@ samples_held nothing = []
 samples_held (some f) = samples_in f
 
 -- what is laid behind an opening bracket or a comma; v is the pair's node, or 0 while it has none
-pub record Along (h : Held) (c : Kept) (row₀ marks₀ : List ℕ) (v : ℕ) (d : Kept) (row marks : List ℕ) : Type 0 where
+pub record Along (h : Held) (c : Kept) (row₀ : List ℕ) (marks₀ : List Standing) (v : ℕ) (d : Kept) (row : List ℕ) (marks : List Standing) : Type 0 where
   pub links : row ≡ sets (spread_held h c.next).links row₀
   pub stands : marks ≡ tally (samples_held h) marks₀
   pub node : v ≡ (spread_held h c.next).node
@@ -115,7 +117,7 @@ pub record Along (h : Held) (c : Kept) (row₀ marks₀ : List ℕ) (v : ℕ) (d
   pub below : (x : ℕ) → 1 ≤ times x (samples_held h) → x < sample_bound
 
 -- what is laid after a subtree
-pub record After (f : Forest) (c : Kept) (row₀ marks₀ : List ℕ) (v : ℕ) (g : Kept) (row marks : List ℕ) : Type 0 where
+pub record After (f : Forest) (c : Kept) (row₀ : List ℕ) (marks₀ : List Standing) (v : ℕ) (g : Kept) (row : List ℕ) (marks : List Standing) : Type 0 where
   pub links : row ≡ sets (spread f c.next).links row₀
   pub stands : marks ≡ tally (samples_in f) marks₀
   pub node : v ≡ (spread f c.next).node
@@ -127,8 +129,8 @@ pub record After (f : Forest) (c : Kept) (row₀ marks₀ : List ℕ) (v : ℕ) 
   pub below : (x : ℕ) → 1 ≤ times x (samples_in f) → x < sample_bound
 
 -- the loop over the subtrees of a pair: where it stands in the text, and what it has laid
-pub record Paired (l : List ℕ) (p d : ℕ) (kept₀ : Kept) (row₀ marks₀ : List ℕ) (j v : ℕ)
-    (kept : Kept) (row marks : List ℕ) : Type 0 where
+pub record Paired (l : List ℕ) (p d : ℕ) (kept₀ : Kept) (row₀ : List ℕ) (marks₀ : List Standing) (j v : ℕ)
+    (kept : Kept) (row : List ℕ) (marks : List Standing) : Type 0 where
   pub some : 0 < d
   pub inside : Inside l p d j
   pub along : Along inside.held kept₀ row₀ marks₀ v kept row marks

@@ -7,4 +7,4 @@ mod tables;
 
 pub use keep::{Kept, NOTHING_LARGE};
 pub use subtrees::subtree;
-pub use tables::{MARKS, Marks, ROW, Row, link};
+pub use tables::{MARKS, Marks, ROW, Row, Standing, link};

@@ -3,6 +3,7 @@ ghost use Rattle.std.specs.Prelude.{◌≡◌, ◌+◌, ◌<◌, ◌≤◌, get_
 ghost use Rattle.trees.specs.Rows.{root_mark};
 ghost use Rattle.newick.specs.Grammar.{sample_bound};
 ghost use Rattle.lay.specs.Laying.{once_more};
+ghost use Rattle.lay.specs.declared.tables.Standing.TheVariants.{Never};
 
 use judge::MOST_SAMPLES;
 
@@ -11,22 +12,28 @@ pub const ROW: usize = 1024;
 
 pub type Row = [u16; ROW];
 
+// How often a sample stands in a text.
+#[derive(Clone, Copy, Debug, PartialEq, Eq)]
+pub enum Standing {
+    Never,
+    Once,
+    Repeated,
+}
+
 // A mark for each sample that there can be: how often it stands.
 pub const MARKS: usize = MOST_SAMPLES;
 
-pub type Marks = [u8; MARKS];
-
-// The mark of a sample that stands once, and of one that stands more than once.
-const ONCE: u8 = 1;
-
-const REPEATED: u8 = 2;
+pub type Marks = [Standing; MARKS];
 
 // Sample x stands once more.
 pub(crate) fn mark(x: usize, marks: &mut Marks)
-    ensures { marks.new ≡ set marks.old x (once_more (get_or marks.old x 0)) }
+    ensures { marks.new ≡ set marks.old x (once_more (get_or marks.old x Never)) }
 {
     if x < MARKS {
-        marks[x] = if marks[x] == 0 { ONCE } else { REPEATED };
+        marks[x] = match marks[x] {
+            Standing::Never => Standing::Once,
+            Standing::Once | Standing::Repeated => Standing::Repeated,
+        };
     }
 }
 
