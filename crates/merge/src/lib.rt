@@ -17,7 +17,7 @@ ghost use Rattle.merge.specs.Settling.{Settled};
 ghost use Rattle.merge.specs.Carrying.{CarriedOver};
 
 use carrying::carry;
-use judge::{MOST_SAMPLES, ROOT_MARK, nodes, parent, wide};
+use judge::{MOST_SAMPLES, ROOT_MARK, nodes, parent};
 use passes::{RANK_STEP, TABLE, Table, rank, ranks};
 
 // A number greater than every rank.
@@ -28,14 +28,12 @@ fn next_kept(keep: &[bool; TABLE], v: usize, m: usize) -> usize
     requires { (v ≤ m) × (m ≤ table_words) }
     ensures { Next keep.now v m result }
 {
-    let mut u = v;
-    while u < m {
+    for u in v..m {
         if keep[u] {
             return u;
         }
-        u += 1;
     }
-    u
+    m
 }
 
 // The rank of node v, and after the last node a number greater than every rank.
@@ -100,7 +98,7 @@ fn choose_next(
 
 // If `taken`, gives node v the number c and answers the next node that is kept; otherwise answers v.
 fn give(num: &mut Table, keep: &[bool; TABLE], v: usize, m: usize, c: usize, taken: bool) -> usize
-    requires { (length num.old ≡ table_words) × (m ≤ table_words) × (c < table_words) × (taken ≡ true → v < m) }
+    requires { (m ≤ table_words) × (c < table_words) × (taken ≡ true → v < m) }
     ensures { Given num.old keep.now v m c taken num.new result }
 {
     if !taken {
@@ -127,7 +125,7 @@ fn lockstep(
 ) -> usize
     requires { Mergeable n a.now keep_a.now b.now keep_b.now
         × Ranked n a.now sizes_a.now lows_a.now × Ranked n b.now sizes_b.now lows_b.now
-        × (num_a.old ≡ blank) × (num_b.old ≡ blank) × (length mins.old ≡ table_words) }
+        × (num_a.old ≡ blank) × (num_b.old ≡ blank) }
     ensures { Numbered n a.now keep_a.now b.now keep_b.now
         num_a.new num_b.new mins.new result }
 {
@@ -148,21 +146,11 @@ fn lockstep(
 
 // The sizes and the smallest samples of a row's nodes.
 fn keys(n: usize, row: &[u16], sizes: &mut Table, lows: &mut Table)
-    requires { Standard n row.now × (length sizes.old ≡ table_words) × (length lows.old ≡ table_words) }
+    requires { Standard n row.now }
     ensures { Ranked n row.now sizes.new lows.new }
 {
     let mut off: Table = [0; TABLE];
     ranks(n, row, sizes, &mut off, lows);
-}
-
-// The larger of two.
-fn larger(x: u16, y: u16) -> u16
-    ensures { result ≡ max x y }
-{
-    if x < y {
-        return y;
-    }
-    x
 }
 
 // A number, or where it is 0 another.
@@ -177,15 +165,12 @@ fn own_or(own: u16, other: u16) -> u16
 
 // Each node that is not kept takes its parent's number, so that each has that of the nearest kept node at or above it.
 fn raise(n: usize, row: &[u16], num: &mut Table)
-    requires { Standard n row.now × (length num.old ≡ table_words) }
-    ensures { Raised n row.now num.old num.new × (length num.new ≡ table_words) }
+    requires { Standard n row.now }
+    ensures { Raised n row.now num.old num.new }
 {
-    let m = nodes(row);
-    let mut v = n + 1;
-    while v < m {
+    for v in n + 1..nodes(row) {
         let p = parent(row, v);
         num[v] = own_or(num[v], num[p]);
-        v += 1;
     }
 }
 
@@ -195,7 +180,7 @@ fn climb(n: usize, row: &[u16], up: &Table, i: usize, v: usize) -> usize
     ensures { result ≡ climbed (nodes row.now) row.now up.now i v }
 {
     let mut u = v;
-    while i <= wide(up[u]) {
+    while i <= usize::from(up[u]) {
         u = parent(row, u);
     }
     u
@@ -210,25 +195,21 @@ fn lift(
     i: usize,
     s: usize,
 ) -> u16
-    requires { Standard n row.now × (entry up.now n < i) × (length places.old ≡ most_samples) × (s < n)
+    requires { Standard n row.now × (entry up.now n < i) × (s < n)
         × (n ≤ entry places.old s) × (entry places.old s < nodes row.now) }
     ensures { Lifted row.now up.now places.old i s places.new result }
 {
-    let v = climb(n, row, up, i, wide(places[s]));
+    let v = climb(n, row, up, i, usize::from(places[s]));
     places[s] = v as u16;
     up[v]
 }
 
 // Puts each sample's place at its parent.
 fn start(n: usize, row: &[u16], places: &mut [u16; MOST_SAMPLES])
-    requires { Standard n row.now × (length places.old ≡ most_samples) }
-    ensures { Tabled (parent row.now) 0 n places.new × (length places.new ≡ most_samples) }
+    requires { Standard n row.now }
+    ensures { Tabled (parent row.now) 0 n places.new }
 {
-    let mut s = 0;
-    while s < n {
-        places[s] = row[s + 1];
-        s += 1;
-    }
+    places[..n].copy_from_slice(&row[1..n + 1]);
 }
 
 // Puts the parent of each new number where its smallest sample was.
@@ -241,13 +222,11 @@ fn parents(n: usize, a: &[u16], up_a: &Table, b: &[u16], up_b: &Table, c: usize,
     let mut places_b = [0u16; MOST_SAMPLES];
     start(n, a, &mut places_a);
     start(n, b, &mut places_b);
-    let mut i = c;
-    while n + 1 < i {
-        i -= 1;
-        let s = wide(mins[i]);
+    for i in (n + 1..c).rev() {
+        let s = usize::from(mins[i]);
         let p = lift(n, a, up_a, &mut places_a, i, s);
         let q = lift(n, b, up_b, &mut places_b, i, s);
-        mins[i] = larger(p, q);
+        mins[i] = p.max(q);
     }
     mins[n] = ROOT_MARK as u16;
 }
@@ -277,7 +256,7 @@ fn word(
     }
     let p = parent(a, w - 1);
     let q = parent(b, w - 1);
-    larger(up_a[p], up_b[q])
+    up_a[p].max(up_b[q])
 }
 
 // Writes the merged row.
@@ -295,10 +274,8 @@ fn write_row(
     ensures { Tabled (word_of n a.now up_a.now b.now up_b.now parents.now c)
         0 (row_words n) out.new }
 {
-    let mut w = 0;
-    while w < out.len() {
+    for w in 0..out.len() {
         out[w] = word(n, a, up_a, b, up_b, parents, c, w);
-        w += 1;
     }
 }
 
@@ -319,11 +296,10 @@ fn merge_ranked(
 )
     requires { Mergeable n a.now keep_a.now b.now keep_b.now
         × Ranked n a.now sizes_a.now lows_a.now × Ranked n b.now sizes_b.now lows_b.now
-        × (length num.old ≡ table_words) × (length out.old ≡ row_words n) }
+        × (length out.old ≡ row_words n) }
     ensures { (out.new
         ≡ row_of n (merged n a.now keep_a.now b.now keep_b.now))
-        × Settled n a.now keep_a.now num.new out.new
-        × (length num.new ≡ table_words) }
+        × Settled n a.now keep_a.now num.new out.new }
 {
     let mut num_b: Table = [0; TABLE];
     let mut mins: Table = [0; TABLE];
@@ -354,7 +330,7 @@ pub fn merge_carried(
 )
     requires { Mergeable n a.now keep_a.now b.now keep_b.now
         × Ranked n a.now sizes_a.now lows_a.now × Ranked n b.now sizes_b.now lows_b.now
-        × (length to.old ≡ table_words) × (length out.old ≡ row_words n) }
+        × (length out.old ≡ row_words n) }
     ensures { CarriedOver n a.now keep_a.now b.now keep_b.now
         from.now to.old to.new out.new }
 {

@@ -13,13 +13,13 @@ loop-u-init c = (refl, search rules, search rules)
 
 pub loop-u-smaller : goal.loop-u-smaller
 loop-u-smaller c =
-    let k : c.args.i ≤ entry c.args.up.now c.loop-u.u = omega (arith, c.wide.ensures.0, c.loop-u-test.true) in
+    let k : c.args.i ≤ entry c.args.up.now c.loop-u.u = omega (arith, c.from.ensures, c.loop-u-test.true) in
     let lower = climb_lower c.requires.0 c.args.up.now c.args.i c.loop-u.u c.requires.1 c.loop-u.invariant.1 (omega (arith, c.requires.3)) k in
     omega (arith, c.parent-u.ensures, lower)
 
 pub loop-u-preserved : goal.loop-u-preserved
 loop-u-preserved c =
-    let k : c.args.i ≤ entry c.args.up.now c.loop-u.u = omega (arith, c.wide.ensures.0, c.loop-u-test.true) in
+    let k : c.args.i ≤ entry c.args.up.now c.loop-u.u = omega (arith, c.from.ensures, c.loop-u-test.true) in
     let d = climb_lower c.requires.0 c.args.up.now c.args.i c.loop-u.u c.requires.1 c.loop-u.invariant.1 (omega (arith, c.requires.3)) k in
     let on = climb_on c.requires.0 c.args.up.now c.args.i c.loop-u.u c.requires.1 c.loop-u.invariant.1 (omega (arith, c.requires.3)) k in
     (rw c.parent-u.ensures (sym on ∙ c.loop-u.invariant.0), omega (arith, c.parent-u.ensures), omega (arith, c.parent-u.ensures))
@@ -27,4 +27,4 @@ loop-u-preserved c =
 pub returns : goal.returns
 returns c =
     sym (climb_stop c.requires.0 c.args.up.now (nodes c.args.row.now) c.args.i c.loop-u.u
-    (omega (arith, c.wide.ensures.0, c.loop-u-test.false))) ∙ c.loop-u.invariant.0
+    (omega (arith, c.from.ensures, c.loop-u-test.false))) ∙ c.loop-u.invariant.0

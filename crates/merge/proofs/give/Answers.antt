@@ -11,16 +11,16 @@ returns-then-not-taken c =
     record { stored = λ e. absurd (false≢true (sym h ∙ e)); next = λ e. absurd (false≢true (sym h ∙ e)); same = λ e. (refl, refl) }
 
 pub offset_bounds-num-v : goal.offset_bounds-num-v
-offset_bounds-num-v c = let h = c.requires.3 c.if-not-taken.false in omega arith
+offset_bounds-num-v c = let h = c.requires.2 c.if-not-taken.false in omega arith
 
 pub bounds-num-v : goal.bounds-num-v
-bounds-num-v c = let h = c.requires.3 c.if-not-taken.false in omega arith
+bounds-num-v c = let h = c.requires.2 c.if-not-taken.false in omega arith
 
 pub overflow_add-v : goal.overflow_add-v
-overflow_add-v c = let h = c.requires.3 c.if-not-taken.false in omega arith
+overflow_add-v c = let h = c.requires.2 c.if-not-taken.false in omega arith
 
 pub next_kept-requires : goal.next_kept-requires
-next_kept-requires c = let h = c.requires.3 c.if-not-taken.false in (omega arith, c.requires.1)
+next_kept-requires c = let h = c.requires.2 c.if-not-taken.false in (omega arith, c.requires.0)
 
 pub returns : goal.returns
 returns c =

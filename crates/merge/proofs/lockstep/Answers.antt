@@ -11,7 +11,7 @@ pub loop-x-init : goal.loop-x-init
 loop-x-init c =
     let first = rw c.nodes-ma.ensures at c.next_kept-x.ensures in
     let second = rw c.nodes-mb.ensures at c.next_kept-y.ensures in
-    (lock_start c.requires.0 c.requires.3 c.requires.4 c.requires.5 first second, c.nodes-ma.ensures, c.nodes-mb.ensures)
+    (lock_start c.requires.0 c.requires.3 c.requires.4 (omega arith) first second, c.nodes-ma.ensures, c.nodes-mb.ensures)
 
 pub choose_next-next-requires : goal.choose_next-next-requires
 choose_next-next-requires c =
@@ -41,7 +41,6 @@ give-x-requires c =
     let left = rw (c.loop-x.invariant.1, c.loop-x.invariant.2) at c.loop-x-test.true in
     let t = rw (c.loop-x.invariant.1, c.loop-x.invariant.2) at c.choose_next-next.ensures in
     let there = first_taken c.requires.0 c.loop-x.invariant.0 c.requires.1 c.requires.2 left t in (
-      c.loop-x.invariant.0.left.words,
       omega (arith, c.loop-x.invariant.1, c.requires.0.first.valid.high, c.requires.0.first.valid.most),
       room (goal.at.give-x-requires c).In-loop-x,
       λ e. omega (arith, c.loop-x.invariant.1, there e),
@@ -52,7 +51,6 @@ give-y-requires c =
     let left = rw (c.loop-x.invariant.1, c.loop-x.invariant.2) at c.loop-x-test.true in
     let t = rw (c.loop-x.invariant.1, c.loop-x.invariant.2) at c.choose_next-next.ensures in
     let there = second_taken c.requires.0 c.loop-x.invariant.0 c.requires.1 c.requires.2 left t in (
-      c.loop-x.invariant.0.right.words,
       omega (arith, c.loop-x.invariant.2, c.requires.0.second.valid.high, c.requires.0.second.valid.most),
       room (goal.at.give-y-requires c).In-loop-x,
       λ e. omega (arith, c.loop-x.invariant.2, there e),

@@ -11,7 +11,6 @@ carry-requires c =
     let moves = rw c.merge_ranked.ensures.0 at c.merge_ranked.ensures.1 in (
       omega (arith, c.nodes.ensures, few _ _ (standard_falls _ _ q)),
       omega (arith, c.nodes.ensures, q.valid.low),
-      c.requires.3,
       rw c.nodes.ensures (settled_apart q (merged_standard c.requires.0) moves),
     )
 

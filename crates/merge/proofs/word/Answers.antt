@@ -5,7 +5,7 @@ use borrow.Author.Tests.{eq-eqb, ne_eqb, lt-ltb, le-ltb}
 use Rattle.trees.specs.Climbing.{word_of}
 use Rattle.trees.proofs.FallsLaws.{standard_falls}
 use native.Mathlib.Omega.{arith}
-use Rattle.merge.proofs.word.Goals.{After-larger-arg-1, After-parent-q, After-way_told-2-1}
+use Rattle.merge.proofs.word.Goals.{After-parent-q}
 use Rattle.merge.proofs.word.Goals as goal
 
 pub returns-then-w-eq0 : goal.returns-then-w-eq0
@@ -46,4 +46,4 @@ bounds-up_b-q c = omega (arith, second_fits (goal.at.bounds-up_b-q c).After-pare
 pub returns : goal.returns
 unfolding word_of
 returns c =
-    rw (ne_eqb _ 0 c.if-w-eq0.false, le-ltb _ _ c.if-c-w.false, le-ltb _ _ c.if-n-w.false, ← c.parent-p.ensures, ← c.parent-q.ensures) c.larger.ensures
+    rw (ne_eqb _ 0 c.if-w-eq0.false, le-ltb _ _ c.if-c-w.false, le-ltb _ _ c.if-n-w.false, ← c.parent-p.ensures, ← c.parent-q.ensures) (omega arith)

@@ -4,8 +4,7 @@ use Rattle.passes.proofs.Filling.{filling_start, filling_more, filling_end}
 use Rattle.merge.proofs.write_row.Goals as goal
 
 pub loop-w-init : goal.loop-w-init
-loop-w-init c =
-    filling_start (omega arith) c.requires.3
+loop-w-init c = filling_start (omega arith) (omega arith)
 
 pub loop-w-preserved : goal.loop-w-preserved
 loop-w-preserved c =
