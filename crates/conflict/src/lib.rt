@@ -4,36 +4,27 @@
 mod paths;
 mod reach;
 
-ghost use Rattle.std.specs.Prelude.{◌≡◌, not, ◌-◌, ◌≤◌, eqb, length};
+ghost use Rattle.std.specs.Prelude.{◌≡◌, not, ◌≤◌, eqb};
 ghost use Rattle.trees.specs.Rows.{nodes, group_at, holds};
 ghost use Rattle.trees.specs.Checks.{most_samples};
 ghost use Rattle.trees.specs.Valid.{Standard};
-ghost use Rattle.trees.specs.Tables.{Tabled, Flags, Most, table_words, entry, size_at};
+ghost use Rattle.trees.specs.Tables.{Tabled, Flags, table_words, entry, size_at};
 ghost use Rattle.trees.specs.Passes.{Starts};
 ghost use Rattle.sides.specs.Sides.{conflicts};
 ghost use Rattle.conflict.specs.Spans.{covers};
-ghost use Rattle.conflict.specs.Gathering.{Reached};
+ghost use Rattle.conflict.specs.Gathering.{reach_at, Low, Reached};
 
 use crate::paths::paths;
-use crate::reach::gather;
-use judge::{nodes, wide};
+use crate::reach::{NOTHING, Reach, Reaches, Ways};
+use judge::nodes;
 use mates::spread;
 use passes::{TABLE, Table};
 
-// What each node of the reference, with its starts, reaches in the row: the node, and the first and the last place.
-fn reaches(
-    n: usize,
-    reference: &[u16],
-    start: &Table,
-    row: &[u16],
-    at: &mut Table,
-    lo: &mut Table,
-    hi: &mut Table,
-)
-    requires { Standard n reference.now × Starts n reference.now (entry start.now) × Standard n row.now
-        × (length at.old ≡ table_words) × (length lo.old ≡ table_words) × (length hi.old ≡ table_words) }
+// What each node of the reference, with its starts, reaches in the row.
+fn reaches(n: usize, reference: &[u16], start: &Table, row: &[u16], reached: &mut Reaches)
+    requires { Standard n reference.now × Starts n reference.now (entry start.now) × Standard n row.now }
     ensures { Reached n reference.now row.now (entry start.now)
-        at.new lo.new hi.new }
+        reached.new }
 {
     let mut first: Table = [0; TABLE];
     let mut last: Table = [0; TABLE];
@@ -41,15 +32,23 @@ fn reaches(
     let mut next: Table = [0; TABLE];
     spread(n, row, start, &mut first, &mut last);
     paths(n, row, &mut head, &mut next);
-    gather(n, reference, row, &first, &last, &head, &next, at, lo, hi);
+    let ways = Ways {
+        n,
+        row,
+        first: &first,
+        last: &last,
+        head: &head,
+        next: &next,
+    };
+    ways.gather(reference, reached);
 }
 
-// Whether the places from lo to hi, the last counted from the end, lie in an interval.
-fn covers(n: usize, size: u16, start: u16, lo: u16, hi: u16) -> bool
+// Whether the places of what is reached lie in an interval.
+fn covers(n: usize, size: u16, start: u16, reach: Reach) -> bool
     requires { n ≤ most_samples }
-    ensures { result ≡ covers n size start lo hi }
+    ensures { result ≡ covers n size start reach.first reach.last }
 {
-    (start <= lo) & (n <= wide(start) + wide(size) + wide(hi))
+    (start <= reach.first) & (n <= usize::from(start) + usize::from(size) + usize::from(reach.last))
 }
 
 // Of the nodes from n to below m, those whose interval covers what they reach.
@@ -58,33 +57,33 @@ fn mark_agrees(
     m: usize,
     size: &Table,
     start: &Table,
-    lo: &Table,
-    hi: &Table,
+    reached: &Reaches,
     agrees: &mut [bool; TABLE],
 )
-    requires { (n ≤ most_samples) × (n ≤ m) × (m ≤ table_words) × (length agrees.old ≡ table_words) }
+    requires { (n ≤ most_samples) × (n ≤ m) × (m ≤ table_words) }
     ensures { Flags (λ h. covers n (entry size.now h) (entry start.now h)
-        (entry lo.now h) (entry hi.now h)) n m agrees.new
-        × (length agrees.new ≡ table_words) }
+        (reach_at reached.now h).first (reach_at reached.now h).last) n m agrees.new }
 {
-    let mut v = n;
-    while v < m {
-        agrees[v] = covers(n, size[v], start[v], lo[v], hi[v]);
-        v += 1;
+    for v in n..m {
+        agrees[v] = covers(n, size[v], start[v], reached[v]);
     }
 }
 
 // Those that have as many samples as the node which they reach.
-fn mark_held(n: usize, m: usize, size: &Table, sizes: &Table, at: &Table, held: &mut [bool; TABLE])
-    requires { (n ≤ m) × (m ≤ table_words) × Most (table_words - 1) m at.now × (length held.old ≡ table_words) }
+fn mark_held(
+    n: usize,
+    m: usize,
+    size: &Table,
+    sizes: &Table,
+    reached: &Reaches,
+    held: &mut [bool; TABLE],
+)
+    requires { (n ≤ m) × (m ≤ table_words) × Low m reached.now }
     ensures { Flags (λ h. eqb (entry size.now h)
-        (entry sizes.now (entry at.now h))) n m held.new
-        × (length held.new ≡ table_words) }
+        (entry sizes.now (reach_at reached.now h).node)) n m held.new }
 {
-    let mut v = n;
-    while v < m {
-        held[v] = size[v] == sizes[wide(at[v])];
-        v += 1;
+    for v in n..m {
+        held[v] = size[v] == sizes[usize::from(reached[v].node)];
     }
 }
 
@@ -98,15 +97,13 @@ pub fn agreements(
     agrees: &mut [bool; TABLE],
 )
     requires { Standard n reference.now × Tabled (size_at n reference.now) 0 (nodes reference.now) size.now
-        × Starts n reference.now (entry start.now) × Standard n row.now × (length agrees.old ≡ table_words) }
+        × Starts n reference.now (entry start.now) × Standard n row.now }
     ensures { Flags (λ h. not (conflicts n (group_at n reference.now h) row.now)) n
-        (nodes reference.now) agrees.new × (length agrees.new ≡ table_words) }
+        (nodes reference.now) agrees.new }
 {
-    let mut at: Table = [0; TABLE];
-    let mut lo: Table = [0; TABLE];
-    let mut hi: Table = [0; TABLE];
-    reaches(n, reference, start, row, &mut at, &mut lo, &mut hi);
-    mark_agrees(n, nodes(reference), size, start, &lo, &hi, agrees);
+    let mut reached = [NOTHING; TABLE];
+    reaches(n, reference, start, row, &mut reached);
+    mark_agrees(n, nodes(reference), size, start, &reached, agrees);
 }
 
 // For each of them, whether another row, with its sizes, holds its group, and whether it agrees with it.
@@ -122,18 +119,15 @@ pub fn sides(
 )
     requires { Standard n reference.now × Tabled (size_at n reference.now) 0 (nodes reference.now) size.now
         × Starts n reference.now (entry start.now) × Standard n row.now
-        × Tabled (size_at n row.now) 0 (nodes row.now) sizes.now
-        × (length held.old ≡ table_words) × (length agrees.old ≡ table_words) }
+        × Tabled (size_at n row.now) 0 (nodes row.now) sizes.now }
     ensures flags { Flags (λ h. holds n (group_at n reference.now h) row.now) n
-        (nodes reference.now) held.new × (length held.new ≡ table_words) }
+        (nodes reference.now) held.new }
     ensures flags_2 { Flags (λ h. not (conflicts n (group_at n reference.now h) row.now)) n
-        (nodes reference.now) agrees.new × (length agrees.new ≡ table_words) }
+        (nodes reference.now) agrees.new }
 {
-    let mut at: Table = [0; TABLE];
-    let mut lo: Table = [0; TABLE];
-    let mut hi: Table = [0; TABLE];
-    reaches(n, reference, start, row, &mut at, &mut lo, &mut hi);
+    let mut reached = [NOTHING; TABLE];
+    reaches(n, reference, start, row, &mut reached);
     let m = nodes(reference);
-    mark_held(n, m, size, sizes, &at, held);
-    mark_agrees(n, m, size, start, &lo, &hi, agrees);
+    mark_held(n, m, size, sizes, &reached, held);
+    mark_agrees(n, m, size, start, &reached, agrees);
 }

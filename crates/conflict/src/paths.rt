@@ -1,7 +1,7 @@
 // The paths of a row's inner nodes: the path of each goes on with its first inner child. In a standard row that has the
 // most samples of them, so that a node which begins a path has at most half of its parent's (`begins_half`), and a way
 // up passes few paths.
-ghost use Rattle.std.specs.Prelude.{◌≡◌, ◌+◌, ◌<◌, length};
+ghost use Rattle.std.specs.Prelude.{◌≡◌, ◌+◌, ◌<◌};
 ghost use Rattle.trees.specs.Lists.{zeros};
 ghost use Rattle.trees.specs.Rows.{nodes};
 ghost use Rattle.trees.specs.Falls.{Falls};
@@ -11,7 +11,7 @@ ghost use Rattle.conflict.specs.Paths.{Paths};
 use judge::{nodes, parent};
 use passes::Table;
 
-// 0 is a sample, and so no inner node.
+// 0 is a sample, and so no inner node; a table of plain words has no room for an Option (fixed memory).
 pub const NO_NODE: u16 = 0;
 
 // Node v goes on with the path of its parent, or begins one where another child goes on already.
@@ -30,14 +30,11 @@ fn extend(n: usize, row: &[u16], head: &mut Table, next: &mut Table, v: usize)
 
 // For each inner node the one at which its path begins, and the child with which it goes on, or NO_NODE.
 pub fn paths(n: usize, row: &[u16], head: &mut Table, next: &mut Table)
-    requires { Falls n row.now × (length head.old ≡ table_words) × (next.old ≡ zeros table_words) }
+    requires { Falls n row.now × (next.old ≡ zeros table_words) }
     ensures { Paths n row.now (nodes row.now) head.new next.new }
 {
-    let m = nodes(row);
     head[n] = n as u16;
-    let mut v = n + 1;
-    while v < m {
+    for v in n + 1..nodes(row) {
         extend(n, row, head, next, v);
-        v += 1;
     }
 }

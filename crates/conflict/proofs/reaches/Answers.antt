@@ -1,7 +1,6 @@
 -- `conflict::reaches`: the places of the row's nodes, their paths, and the pass. Assumes nothing.
-use Prim.Native.Nat.{ℕ}
-use mathlib.Core.Path.{refl}
-use lib.ListN.{length-replicate}
+use Rattle.std.proofs.Common.{ℕ, refl}
+use Rattle.std.proofs.lemmas.List.{length-replicate}
 use Rattle.trees.specs.Tables.{table_words}
 use Rattle.trees.proofs.FallsLaws.{standard_falls}
 use Rattle.trees.proofs.PlaceLaws.{place_keys}
@@ -17,8 +16,7 @@ spread-requires c = (
 )
 
 pub paths-requires : goal.paths-requires
-paths-requires c = (standard_falls _ _ c.requires.2, length-replicate {A = ℕ} table_words 0, refl)
+paths-requires c = (standard_falls _ _ c.requires.2, refl)
 
 pub returns : goal.returns
-returns c =
-    gauged_reached _ _ _ c.args.start.now _ _ _ _ _ c.spread.ensures.0 c.spread.ensures.1 c.gather.ensures
+returns c = gauged_reached _ _ _ c.args.start.now _ _ _ c.spread.ensures.0 c.spread.ensures.1 c.gather.ensures

@@ -1,21 +1,20 @@
--- `conflict::reach::level` goes on along the path, where there is a way to go. Assumes nothing.
-use mathlib.Core.Path.{◌≡◌, ◌∙◌, ap}
-use native.Mathlib.Omega.{arith}
+-- `conflict::reach::Ways::level` goes on along the path, where there is a way to go. Assumes nothing.
+use Rattle.std.proofs.Common.{◌≡◌, ◌∙◌, ap, arith}
 use Rattle.trees.specs.Tables.{entry}
 use Rattle.trees.proofs.FallsLaws.{standard_falls, few}
 use Rattle.conflict.specs.Paths.{Onward}
 use Rattle.conflict.specs.GatherLaws.{levelled_stay, levelled_up}
-use Rattle.conflict.proofs.reach.level.Goals.{After-wide-then-x-y, Then-x-y}
-use Rattle.conflict.proofs.reach.level.Goals as goal
+use Rattle.conflict.proofs.reach.Ways.level.Goals.{After-from-then-x-y, Then-x-y}
+use Rattle.conflict.proofs.reach.Ways.level.Goals as goal
 
 onward : (c : Then-x-y) → let a = c.args in
-    Onward a.n a.row.now a.next.now a.x a.y.node
+    Onward a.self.now.n a.self.now.row.now a.self.now.next.now a.x a.y.node
 onward c = c.requires.2 (omega arith)
 
 -- the node of which the parent is taken
-goes : (c : After-wide-then-x-y) → c.wide-then-x-y.result ≡ entry c.args.next.now c.args.x
+goes : (c : After-from-then-x-y) → c.from-then-x-y.result ≡ entry c.args.self.now.next.now c.args.x
 goes c =
-    c.wide-then-x-y.ensures.0 ∙ ap (entry c.args.next.now) c.wide.ensures.0
+    c.from-then-x-y.ensures ∙ ap (entry c.args.self.now.next.now) c.from.ensures
 
 pub up-requires : goal.up-requires
 up-requires c =
@@ -27,7 +26,7 @@ up-requires c =
 
 pub returns-then-x-y : goal.returns-then-x-y
 returns-then-x-y c =
-    levelled_up _ _ c.requires.0 _ _ _ _ _ c.wide-then-x-y.result _ (omega arith) (onward (goal.at.returns-then-x-y c).Then-x-y) (goes (goal.at.returns-then-x-y c).After-wide-then-x-y) c.up.ensures
+    levelled_up _ _ c.requires.0 _ _ _ _ _ c.from-then-x-y.result _ (omega arith) (onward (goal.at.returns-then-x-y c).Then-x-y) (goes (goal.at.returns-then-x-y c).After-from-then-x-y) c.up.ensures
 
 pub returns : goal.returns
 returns c = levelled_stay _ _ c.requires.0 _ _ c.args.x c.args.y (omega arith)

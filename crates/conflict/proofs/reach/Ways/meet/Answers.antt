@@ -1,4 +1,4 @@
--- `conflict::reach::meet` walks to one path, and along it to the first node that is above both. Assumes nothing.
+-- `conflict::reach::Ways::meet` walks to one path, and along it to the first node that is above both. Assumes nothing.
 use Prim.Native.Nat.{◌<◌}
 use mathlib.Core.Path.{◌≡◌, sym, ap}
 use native.Mathlib.Omega.{arith}
@@ -10,8 +10,8 @@ use Rattle.conflict.specs.PathLaws.{same_path}
 use Rattle.conflict.specs.Gathering.{Walk}
 use Rattle.conflict.specs.GatherLaws.{walk_start, walk_left, walk_right, left_lower, right_lower}
 use borrow.Author.Rules.{rules}
-use Rattle.conflict.proofs.reach.meet.Goals.{After-up-x, After-up-y, After-wide, After-wide-else-h-k}
-use Rattle.conflict.proofs.reach.meet.Goals as goal
+use Rattle.conflict.proofs.reach.Ways.meet.Goals.{After-up-x, After-up-y, After-from, After-from-else-h-k}
+use Rattle.conflict.proofs.reach.Ways.meet.Goals as goal
 
 pub begin-h-requires : goal.begin-h-requires
 begin-h-requires c =
@@ -26,11 +26,11 @@ loop-h-init c =
     (c.begin-h.ensures, c.begin-k.ensures, walk_start _ _ c.requires.0 _ _ _ _ c.requires.2 c.requires.3 c.requires.4 c.requires.5)
 
 -- the node on the right comes down
-low-right : (w : After-wide) → let r = w.args.row.now in
-    (w.wide.result < nodes r) × (parent r w.wide.result < w.loop-h.y.node)
+low-right : (w : After-from) → let r = w.args.self.now.row.now in
+    (w.from.result < nodes r) × (parent r w.from.result < w.loop-h.y.node)
 low-right w =
-    let e = w.wide.ensures.0 in
-    right_lower _ _ w.requires.0 _ _ _ _ _ _ w.requires.3 w.requires.5 w.loop-h.invariant.2 _ _ w.requires.1 w.wide.result
+    let e = w.from.ensures in
+    right_lower _ _ w.requires.0 _ _ _ _ _ _ w.requires.3 w.requires.5 w.loop-h.invariant.2 _ _ w.requires.1 w.from.result
     (omega (arith, w.loop-h.invariant.0, w.loop-h.invariant.1, e)) (omega (arith, w.loop-h.invariant.0, w.loop-h.invariant.1, e))
 
 pub up-y-requires : goal.up-y-requires
@@ -40,10 +40,10 @@ up-y-requires c =
 
 -- the walk after a step on the right
 went-right : (u : After-up-y) → let a = u.args in
-    Walk a.n a.row.now (entry a.first.now) (entry a.last.now) a.a a.b u.loop-h.x u.up-y.result
+    Walk a.self.now.n a.self.now.row.now (entry a.self.now.first.now) (entry a.self.now.last.now) a.a a.b u.loop-h.x u.up-y.result
 went-right u =
-    let e = u.wide.ensures.0 in
-    walk_right _ _ u.requires.0 _ _ _ _ _ _ u.requires.3 u.requires.5 u.loop-h.invariant.2 _ _ u.requires.1 u.wide.result _
+    let e = u.from.ensures in
+    walk_right _ _ u.requires.0 _ _ _ _ _ _ u.requires.3 u.requires.5 u.loop-h.invariant.2 _ _ u.requires.1 u.from.result _
     (omega (arith, u.loop-h.invariant.0, u.loop-h.invariant.1, e)) (omega (arith, u.loop-h.invariant.0, u.loop-h.invariant.1, e)) u.up-y.ensures
 
 pub begin-k-requires-then-h-k : goal.begin-k-requires-then-h-k
@@ -52,18 +52,18 @@ begin-k-requires-then-h-k c =
 
 pub loop-h-smaller-then-h-k : goal.loop-h-smaller-then-h-k
 loop-h-smaller-then-h-k c =
-    omega (arith, low-right (goal.at.loop-h-smaller-then-h-k c).After-wide, ap (λ (t : Reach). t.node) c.up-y.ensures)
+    omega (arith, low-right (goal.at.loop-h-smaller-then-h-k c).After-from, ap (λ (t : Reach). t.node) c.up-y.ensures)
 
 pub loop-h-preserved-then-h-k : goal.loop-h-preserved-then-h-k
 loop-h-preserved-then-h-k c =
     (c.loop-h.invariant.0, c.begin-k-then-h-k.ensures, went-right (goal.at.loop-h-preserved-then-h-k c).After-up-y)
 
 -- the node on the left comes down
-low-left : (w : After-wide-else-h-k) → let r = w.args.row.now in
-    (w.wide-else-h-k.result < nodes r) × (parent r w.wide-else-h-k.result < w.loop-h.x.node)
+low-left : (w : After-from-else-h-k) → let r = w.args.self.now.row.now in
+    (w.from-else-h-k.result < nodes r) × (parent r w.from-else-h-k.result < w.loop-h.x.node)
 low-left w =
-    let e = w.wide-else-h-k.ensures.0 in
-    left_lower _ _ w.requires.0 _ _ _ _ _ _ w.requires.3 w.requires.5 w.loop-h.invariant.2 _ _ w.requires.1 w.wide-else-h-k.result
+    let e = w.from-else-h-k.ensures in
+    left_lower _ _ w.requires.0 _ _ _ _ _ _ w.requires.3 w.requires.5 w.loop-h.invariant.2 _ _ w.requires.1 w.from-else-h-k.result
     (omega (arith, w.loop-h.invariant.0, w.loop-h.invariant.1, e)) (omega (arith, w.loop-h.invariant.0, w.loop-h.invariant.1, e))
 
 pub up-x-requires : goal.up-x-requires
@@ -73,10 +73,10 @@ up-x-requires c =
 
 -- the walk after a step on the left
 went-left : (u : After-up-x) → let a = u.args in
-    Walk a.n a.row.now (entry a.first.now) (entry a.last.now) a.a a.b u.up-x.result u.loop-h.y
+    Walk a.self.now.n a.self.now.row.now (entry a.self.now.first.now) (entry a.self.now.last.now) a.a a.b u.up-x.result u.loop-h.y
 went-left u =
-    let e = u.wide-else-h-k.ensures.0 in
-    walk_left _ _ u.requires.0 _ _ _ _ _ _ u.requires.3 u.requires.5 u.loop-h.invariant.2 _ _ u.requires.1 u.wide-else-h-k.result _
+    let e = u.from-else-h-k.ensures in
+    walk_left _ _ u.requires.0 _ _ _ _ _ _ u.requires.3 u.requires.5 u.loop-h.invariant.2 _ _ u.requires.1 u.from-else-h-k.result _
     (omega (arith, u.loop-h.invariant.0, u.loop-h.invariant.1, e)) (omega (arith, u.loop-h.invariant.0, u.loop-h.invariant.1, e)) u.up-x.ensures
 
 pub begin-h-requires-else-h-k : goal.begin-h-requires-else-h-k
@@ -85,7 +85,7 @@ begin-h-requires-else-h-k c =
 
 pub loop-h-smaller : goal.loop-h-smaller
 loop-h-smaller c =
-    omega (arith, low-left (goal.at.loop-h-smaller c).After-wide-else-h-k, ap (λ (t : Reach). t.node) c.up-x.ensures)
+    omega (arith, low-left (goal.at.loop-h-smaller c).After-from-else-h-k, ap (λ (t : Reach). t.node) c.up-x.ensures)
 
 pub loop-h-preserved : goal.loop-h-preserved
 loop-h-preserved c =
@@ -96,7 +96,7 @@ settle-requires c =
     let i = c.loop-h.invariant in
     let w = i.2 in
     let f = standard_falls _ _ c.requires.0 in
-    let t = c.args.head.now in
+    let t = c.args.self.now.head.now in
     let e : entry t c.loop-h.x.node ≡ entry t c.loop-h.y.node = omega (arith, i.0, i.1) in (
       c.requires.0,
       w.left.high,

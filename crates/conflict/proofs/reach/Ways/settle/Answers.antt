@@ -1,6 +1,6 @@
--- `conflict::reach::settle` brings each of two nodes to the level of the other. Assumes nothing.
+-- `conflict::reach::Ways::settle` brings each of two nodes to the level of the other. Assumes nothing.
 use Rattle.conflict.specs.GatherLaws.{levelled_ends}
-use Rattle.conflict.proofs.reach.settle.Goals as goal
+use Rattle.conflict.proofs.reach.Ways.settle.Goals as goal
 
 pub level-u-requires : goal.level-u-requires
 level-u-requires c = (c.requires.0, c.requires.2, c.requires.4)
