@@ -28,15 +28,12 @@ fn turned(held: bool, agrees: bool, c: u16) -> u16
     ensures { result ≡ turned weight held agrees c }
 {
     if held {
-        return c + WEIGHT;
+        c + WEIGHT
+    } else if agrees {
+        c
+    } else {
+        c.saturating_sub(WEIGHT)
     }
-    if agrees {
-        return c;
-    }
-    if c < WEIGHT {
-        return 0;
-    }
-    c - WEIGHT
 }
 
 // Turns the counters of the nodes from n to below m, and tells which are not 0.
@@ -48,17 +45,14 @@ fn sweep(
     counter: &mut Table,
     keep: &mut [bool; TABLE],
 )
-    requires { (n ≤ m) × (m ≤ table_words) × (length counter.old ≡ table_words) × (length keep.old ≡ table_words)
-        × Room n m weight counter.old }
+    requires { (n ≤ m) × (m ≤ table_words) × Room n m weight counter.old }
     ensures { Turned (turned_in weight held.now agrees.now counter.old) n m
         counter.new keep.new }
 {
-    let mut v = n;
-    while v < m {
+    for v in n..m {
         let c = turned(held[v], agrees[v], counter[v]);
         counter[v] = c;
         keep[v] = 0 < c;
-        v += 1;
     }
 }
 
@@ -75,8 +69,8 @@ fn count_run(
 )
     requires { Standard n candidates.now × Tabled (size_at n candidates.now) 0 (nodes candidates.now) size.now
         × Starts n candidates.now (entry start.now) × Standard n row.now
-        × Tabled (size_at n row.now) 0 (nodes row.now) sizes.now × (length counter.old ≡ table_words)
-        × (length keep.old ≡ table_words) × Room n (nodes candidates.now) weight counter.old }
+        × Tabled (size_at n row.now) 0 (nodes row.now) sizes.now
+        × Room n (nodes candidates.now) weight counter.old }
     ensures { Turned (turned_by n weight candidates.now row.now counter.old) n
         (nodes candidates.now) counter.new keep.new }
 {
@@ -113,7 +107,7 @@ fn renew(
 )
     requires { Mergeable n candidates.now keep.now row.now enter.now
         × Ranked n candidates.now size.now low.now × Ranked n row.now sizes.now lows.now
-        × (length fresh.old ≡ table_words) × (length out.old ≡ row_words n) }
+        × (length out.old ≡ row_words n) }
     ensures { CarriedOver n candidates.now keep.now row.now enter.now
         counter.now weights fresh.new out.new }
 {
@@ -141,9 +135,9 @@ fn turn(
     requires { Standard n row.now × Tables n row.now sizes.now lows.now starts.now
         × Ready n candidates.now counter.old × Tables n candidates.now size.now low.now start.now
         × Room n (nodes candidates.now) weight counter.old
-        × (length counter.old ≡ table_words) × (length fresh.old ≡ table_words) × (length out.old ≡ row_words n) }
+        × (length out.old ≡ row_words n) }
     ensures { Rounded n weight row.now candidates.now counter.old
-        out.new fresh.new × (length fresh.new ≡ table_words) }
+        out.new fresh.new }
 {
     let mut keep: [bool; TABLE] = [false; TABLE];
     let mut enter: [bool; TABLE] = [false; TABLE];
@@ -168,9 +162,9 @@ fn round_ranked(
 )
     requires { Standard n row.now × Ready n candidates.now counter.old
         × Tables n candidates.now size.now low.now start.now × Room n (nodes candidates.now) weight counter.old
-        × (length counter.old ≡ table_words) × (length fresh.old ≡ table_words) × (length out.old ≡ row_words n) }
+        × (length out.old ≡ row_words n) }
     ensures { Rounded n weight row.now candidates.now counter.old
-        out.new fresh.new × (length fresh.new ≡ table_words) }
+        out.new fresh.new }
 {
     let mut sizes: Table = [0; TABLE];
     let mut lows: Table = [0; TABLE];
@@ -192,9 +186,9 @@ pub fn round(
 )
     requires { Standard n row.now × Ready n candidates.now counter.old
         × Room n (nodes candidates.now) weight counter.old
-        × (length counter.old ≡ table_words) × (length fresh.old ≡ table_words) × (length out.old ≡ row_words n) }
+        × (length out.old ≡ row_words n) }
     ensures { Rounded n weight row.now candidates.now counter.old
-        out.new fresh.new × (length fresh.new ≡ table_words) }
+        out.new fresh.new }
 {
     let mut size: Table = [0; TABLE];
     let mut low: Table = [0; TABLE];
