@@ -5,8 +5,8 @@ use Rattle.merge.proofs.parents.Goals as goal
 
 pub loop-i-init : goal.loop-i-init
 loop-i-init c =
-    climbs_start c.requires (placed_start c.requires.first c.args.up_a.now c.args.c (omega arith) c.start.ensures)
-    (placed_start c.requires.second c.args.up_b.now c.args.c (omega arith) c.start-2.ensures)
+    climbs_start c.requires (placed_start c.requires.first c.args.a.now.up.now c.args.c (omega arith) c.start.ensures)
+    (placed_start c.requires.second c.args.b.now.up.now c.args.c (omega arith) c.start-2.ensures)
 
 pub lift-p-requires : goal.lift-p-requires
 lift-p-requires c =

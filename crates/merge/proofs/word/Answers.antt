@@ -23,25 +23,25 @@ returns-then-n-w c =
 
 first_fits : (c : After-parent-q) → c.parent-p.result < table_words
 first_fits c =
-    let d = (standard_falls c.args.n c.args.a.now c.requires.0).leaf (c.args.w - 1) (omega arith) in
+    let d = (standard_falls c.args.n c.args.a.now.row.now c.requires.0).leaf (c.args.w - 1) (omega arith) in
     omega (arith, c.parent-p.ensures, d.1, c.requires.0.valid.high, c.requires.0.valid.most)
 
 second_fits : (c : After-parent-q) → c.parent-q.result < table_words
 second_fits c =
-    let d = (standard_falls c.args.n c.args.b.now c.requires.1).leaf (c.args.w - 1) (omega arith) in
+    let d = (standard_falls c.args.n c.args.b.now.row.now c.requires.1).leaf (c.args.w - 1) (omega arith) in
     omega (arith, c.parent-q.ensures, d.1, c.requires.1.valid.high, c.requires.1.valid.most)
 
-pub offset_bounds-up_a-p : goal.offset_bounds-up_a-p
-offset_bounds-up_a-p c = omega (arith, first_fits c)
+pub offset_bounds-a-p : goal.offset_bounds-a-p
+offset_bounds-a-p c = omega (arith, first_fits c)
 
-pub bounds-up_a-p : goal.bounds-up_a-p
-bounds-up_a-p c = omega (arith, first_fits (goal.at.bounds-up_a-p c).After-parent-q)
+pub bounds-a-p : goal.bounds-a-p
+bounds-a-p c = omega (arith, first_fits (goal.at.bounds-a-p c).After-parent-q)
 
-pub offset_bounds-up_b-q : goal.offset_bounds-up_b-q
-offset_bounds-up_b-q c = omega (arith, second_fits (goal.at.offset_bounds-up_b-q c).After-parent-q)
+pub offset_bounds-b-q : goal.offset_bounds-b-q
+offset_bounds-b-q c = omega (arith, second_fits (goal.at.offset_bounds-b-q c).After-parent-q)
 
-pub bounds-up_b-q : goal.bounds-up_b-q
-bounds-up_b-q c = omega (arith, second_fits (goal.at.bounds-up_b-q c).After-parent-q)
+pub bounds-b-q : goal.bounds-b-q
+bounds-b-q c = omega (arith, second_fits (goal.at.bounds-b-q c).After-parent-q)
 
 pub returns : goal.returns
 unfolding word_of
