@@ -50,8 +50,7 @@ fn lesser_of(u: Reach, t: Reach) -> Reach
 pub struct Ways<'a> {
     pub n: usize,
     pub row: &'a [u16],
-    pub first: &'a Table,
-    pub last: &'a Table,
+    pub ends: &'a mates::Ends,
     pub head: &'a Table,
     pub next: &'a Table,
 }
@@ -60,12 +59,12 @@ impl Ways<'_> {
     // The parent of node x, of which whatever x contains touches x alone.
     fn up(&self, x: usize) -> Reach
         requires { (x + 1 < length self.now.row.now) × (x < table_words) }
-        ensures { result ≡ up_from self.now.row.now (entry self.now.first.now) (entry self.now.last.now) x }
+        ensures { result ≡ up_from self.now.row.now (entry self.now.ends.now.first) (entry self.now.ends.now.last) x }
     {
         Reach {
             node: self.row[x + 1],
-            first: self.first[x],
-            last: self.last[x],
+            first: self.ends.first[x],
+            last: self.ends.last[x],
         }
     }
 
@@ -81,7 +80,7 @@ impl Ways<'_> {
     fn level(&self, x: u16, y: Reach) -> Reach
         requires { Standard self.now.n self.now.row.now × (x < nodes self.now.row.now)
             × (x < y.node → Onward self.now.n self.now.row.now self.now.next.now x y.node) }
-        ensures { Levelled self.now.n self.now.row.now (entry self.now.first.now) (entry self.now.last.now) x y result }
+        ensures { Levelled self.now.n self.now.row.now (entry self.now.ends.now.first) (entry self.now.ends.now.last) x y result }
     {
         if x < y.node {
             return self.up(usize::from(self.next[usize::from(x)]));
@@ -95,7 +94,7 @@ impl Ways<'_> {
             × (x.node < nodes self.now.row.now) × (y.node < nodes self.now.row.now)
             × (x.node < y.node → Onward self.now.n self.now.row.now self.now.next.now x.node y.node)
             × (y.node < x.node → Onward self.now.n self.now.row.now self.now.next.now y.node x.node) }
-        ensures { Ends self.now.n self.now.row.now (entry self.now.first.now) (entry self.now.last.now) x y result }
+        ensures { Ends self.now.n self.now.row.now (entry self.now.ends.now.first) (entry self.now.ends.now.last) x y result }
     {
         let u = self.level(y.node, x);
         let t = self.level(x.node, y);
@@ -109,7 +108,7 @@ impl Ways<'_> {
             × Paths self.now.n self.now.row.now (nodes self.now.row.now) self.now.head.now self.now.next.now
             × (self.now.n ≤ a.node) × (a.node < nodes self.now.row.now)
             × (self.now.n ≤ b.node) × (b.node < nodes self.now.row.now) }
-        ensures { Joins self.now.n self.now.row.now (entry self.now.first.now) (entry self.now.last.now) a b result }
+        ensures { Joins self.now.n self.now.row.now (entry self.now.ends.now.first) (entry self.now.ends.now.last) a b result }
     {
         let mut x = a;
         let mut y = b;
@@ -133,7 +132,7 @@ impl Ways<'_> {
             × Paths self.now.n self.now.row.now (nodes self.now.row.now) self.now.head.now self.now.next.now
             × NodeOrNone self.now.n self.now.row.now a.node
             × (self.now.n ≤ b.node) × (b.node < nodes self.now.row.now) }
-        ensures { Joins self.now.n self.now.row.now (entry self.now.first.now) (entry self.now.last.now) a b result }
+        ensures { Joins self.now.n self.now.row.now (entry self.now.ends.now.first) (entry self.now.ends.now.last) a b result }
     {
         if a.node == NO_NODE {
             return b;
@@ -144,7 +143,7 @@ impl Ways<'_> {
     // What node v of the reference starts with: a sample is reached by its parent, and an inner node has got nothing.
     fn initial(&self, v: usize) -> Reach
         requires { (self.now.n ≤ most_samples) × (self.now.n < length self.now.row.now) }
-        ensures { Begins self.now.n self.now.row.now (entry self.now.first.now) (entry self.now.last.now) v result }
+        ensures { Begins self.now.n self.now.row.now (entry self.now.ends.now.first) (entry self.now.ends.now.last) v result }
     {
         if v < self.n {
             return self.up(v);
@@ -155,7 +154,7 @@ impl Ways<'_> {
     // What the nodes below m start with.
     fn seed(&self, m: usize, reached: &mut Reaches)
         requires { (self.now.n ≤ most_samples) × (self.now.n < length self.now.row.now) × (m ≤ table_words) }
-        ensures { Seeding self.now.n self.now.row.now (entry self.now.first.now) (entry self.now.last.now) m reached.new }
+        ensures { Seeding self.now.n self.now.row.now (entry self.now.ends.now.first) (entry self.now.ends.now.last) m reached.new }
     {
         for v in 0..m {
             reached[v] = self.initial(v);
@@ -169,7 +168,7 @@ impl Ways<'_> {
             × (v < table_words) × (p < table_words)
             × NodeOrNone self.now.n self.now.row.now (reach_at reached.old p).node
             × (self.now.n ≤ (reach_at reached.old v).node) × ((reach_at reached.old v).node < nodes self.now.row.now) }
-        ensures { Handed self.now.n self.now.row.now (entry self.now.first.now) (entry self.now.last.now) v p
+        ensures { Handed self.now.n self.now.row.now (entry self.now.ends.now.first) (entry self.now.ends.now.last) v p
             reached.old reached.new }
     {
         reached[p] = self.join(reached[p], reached[v]);
@@ -179,7 +178,7 @@ impl Ways<'_> {
     pub fn gather(&self, reference: &[u16], reached: &mut Reaches)
         requires { Standard self.now.n reference.now × Standard self.now.n self.now.row.now
             × Paths self.now.n self.now.row.now (nodes self.now.row.now) self.now.head.now self.now.next.now }
-        ensures { Gauged self.now.n reference.now self.now.row.now (entry self.now.first.now) (entry self.now.last.now)
+        ensures { Gauged self.now.n reference.now self.now.row.now (entry self.now.ends.now.first) (entry self.now.ends.now.last)
             reached.new }
     {
         let m = nodes(reference);

@@ -40,7 +40,7 @@ up-y-requires c =
 
 -- the walk after a step on the right
 went-right : (u : After-up-y) → let a = u.args in
-    Walk a.self.now.n a.self.now.row.now (entry a.self.now.first.now) (entry a.self.now.last.now) a.a a.b u.loop-h.x u.up-y.result
+    Walk a.self.now.n a.self.now.row.now (entry a.self.now.ends.now.first) (entry a.self.now.ends.now.last) a.a a.b u.loop-h.x u.up-y.result
 went-right u =
     let e = u.from.ensures in
     walk_right _ _ u.requires.0 _ _ _ _ _ _ u.requires.3 u.requires.5 u.loop-h.invariant.2 _ _ u.requires.1 u.from.result _
@@ -73,7 +73,7 @@ up-x-requires c =
 
 -- the walk after a step on the left
 went-left : (u : After-up-x) → let a = u.args in
-    Walk a.self.now.n a.self.now.row.now (entry a.self.now.first.now) (entry a.self.now.last.now) a.a a.b u.up-x.result u.loop-h.y
+    Walk a.self.now.n a.self.now.row.now (entry a.self.now.ends.now.first) (entry a.self.now.ends.now.last) a.a a.b u.up-x.result u.loop-h.y
 went-left u =
     let e = u.from-else-h-k.ensures in
     walk_left _ _ u.requires.0 _ _ _ _ _ _ u.requires.3 u.requires.5 u.loop-h.invariant.2 _ _ u.requires.1 u.from-else-h-k.result _
