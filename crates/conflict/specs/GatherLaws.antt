@@ -26,7 +26,7 @@ use Rattle.conflict.specs.Spans.{Joined, up_from, lesser_of, Both, covers}
 use Rattle.conflict.specs.SpanLaws.{joined_same, sample_joined, same_joined, climbed_start, climbed_up, join}
 use Rattle.conflict.specs.HullLaws.{covers_agrees, sizes_hold}
 use Rattle.conflict.specs.Gathering.{Got, NodeOrNone, Joins, Walk, Levelled, Ends}
-use Rattle.conflict.specs.Gathering.{nothing, reach_at, Low, Begins, Seeding, Handed, Gathered, Gauged, Reached}
+use Rattle.conflict.specs.Gathering.{nothing, reach_at, Begins, Seeding, Handed, Gathered, Gauged, Reached}
 
 -- ---- the table
 
@@ -240,10 +240,6 @@ gauged_reached n q r start first last t tf tl g = record {
 -- flags of a function are those of one with the same values
 flags_same : (f g : ℕ → Bool) (a b : ℕ) (t : List Bool) → ((v : ℕ) → a ≤ v → v < b → f v ≡ g v) → Flags f a b t → Flags g a b t
 flags_same f g a b t e i = record { is = λ v h k. i.is v h k ∙ e v h k }
-
--- the nodes reached are words of a table
-pub reached_low : (n : ℕ) (q r start : List ℕ) (t : List Reach) → Standard n r → Reached n q r (entry start) t → Low (nodes q) t
-reached_low n q r start t rs g = record { low = λ h k. omega (arith, (g.joined h k).spans.high, few n r (standard_falls n r rs)) }
 
 module _ (n : ℕ) (q r : List ℕ) (qs : Standard n q) (rs : Standard n r) (size start : List ℕ) (t : List Reach)
     (sized : Tabled (size_at n q) 0 (nodes q) size) (laid : Starts n q (entry start)) (g : Reached n q r (entry start) t)

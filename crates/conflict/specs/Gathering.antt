@@ -2,7 +2,7 @@
 use Rattle.std.specs.Prelude.{ℕ, ◌≤◌, ◌<◌, min, ◌≡◌, ◌⊎◌, List, false, get_or, set}
 use Rattle.trees.specs.Groups.{Group, has}
 use Rattle.trees.specs.Rows.{nodes, group_at}
-use Rattle.trees.specs.Tables.{table_words, least_at}
+use Rattle.trees.specs.Tables.{least_at}
 use Rattle.trees.specs.Passes.{part}
 use Rattle.trees.specs.Mates.{from_end}
 use Rattle.conflict.specs.declared.reach.Reach.{Reach}
@@ -47,10 +47,6 @@ nothing = record { node = 0; first = 0; last = 0 }
 -- the entry of node v
 abbrev pub reach_at : List Reach → ℕ → Reach
 reach_at t v = get_or t v nothing
-
--- the nodes reached from the nodes below m are words of a table
-pub record Low (m : ℕ) (t : List Reach) : Type 0 where
-  pub low : (v : ℕ) → v < m → (reach_at t v).node < table_words
 
 -- ---- the pass
 

@@ -15,7 +15,7 @@ ghost use Rattle.sides.specs.Sides.{conflicts};
 ghost use Rattle.conflict.specs.Spans.{covers};
 ghost use Rattle.conflict.specs.Gathering.{Reached};
 
-use crate::paths::paths;
+use crate::paths::Trails;
 use crate::reach::{NOTHING, Reach, Reaches, Ways};
 use judge::nodes;
 use mates::{Chart, spread};
@@ -26,16 +26,13 @@ fn reaches(n: usize, reference: &[u16], start: &Table, row: &[u16], reached: &mu
     requires { Standard n reference.now × Starts n reference.now (entry start.now) × Standard n row.now }
     ensures { Reached n reference.now row.now (entry start.now) reached.new }
 {
-    let mut head: Table = [0; TABLE];
-    let mut next: Table = [0; TABLE];
-    paths(n, row, &mut head, &mut next);
     let ends = spread(n, row, start);
+    let trails = Trails::of(n, row);
     let ways = Ways {
         n,
         row,
         ends: &ends,
-        head: &head,
-        next: &next,
+        trails: &trails,
     };
     ways.gather(reference, reached);
 }

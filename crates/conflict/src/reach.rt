@@ -10,7 +10,7 @@ ghost use Rattle.conflict.specs.Spans.{up_from, lesser_of};
 ghost use Rattle.conflict.specs.Gathering.{NodeOrNone, Joins, Levelled, Ends};
 ghost use Rattle.conflict.specs.Gathering.{reach_at, Begins, Seeding, Handed, Gauged};
 
-use crate::paths::NO_NODE;
+use crate::paths::{NO_NODE, Trails};
 use judge::nodes;
 use passes::{TABLE, Table, step};
 
@@ -44,15 +44,13 @@ fn lesser_of(u: Reach, t: Reach) -> Reach
     }
 }
 
-// A row of n samples, by node the first and the last of its places, the node at which its path begins, and the child
-// with which that goes on.
+// A row of n samples, with the first and the last place of each node and the paths of the inner nodes.
 #[derive(Clone, Copy)]
 pub struct Ways<'a> {
     pub n: usize,
     pub row: &'a [u16],
     pub ends: &'a mates::Ends,
-    pub head: &'a Table,
-    pub next: &'a Table,
+    pub trails: &'a Trails,
 }
 
 impl Ways<'_> {
@@ -71,19 +69,19 @@ impl Ways<'_> {
     // The node at which the path of node v begins.
     fn begin(&self, v: u16) -> u16
         requires { v < table_words }
-        ensures { result ≡ entry self.now.head.now v }
+        ensures { result ≡ entry self.now.trails.now.head v }
     {
-        self.head[usize::from(v)]
+        self.trails.head[usize::from(v)]
     }
 
     // What y reaches, brought up to node x where it is below it on one path.
     fn level(&self, x: u16, y: Reach) -> Reach
         requires { Standard self.now.n self.now.row.now × (x < nodes self.now.row.now)
-            × (x < y.node → Onward self.now.n self.now.row.now self.now.next.now x y.node) }
+            × (x < y.node → Onward self.now.n self.now.row.now self.now.trails.now.next x y.node) }
         ensures { Levelled self.now.n self.now.row.now (entry self.now.ends.now.first) (entry self.now.ends.now.last) x y result }
     {
         if x < y.node {
-            return self.up(usize::from(self.next[usize::from(x)]));
+            return self.up(usize::from(self.trails.next[usize::from(x)]));
         }
         y
     }
@@ -92,8 +90,8 @@ impl Ways<'_> {
     fn settle(&self, x: Reach, y: Reach) -> Reach
         requires { Standard self.now.n self.now.row.now
             × (x.node < nodes self.now.row.now) × (y.node < nodes self.now.row.now)
-            × (x.node < y.node → Onward self.now.n self.now.row.now self.now.next.now x.node y.node)
-            × (y.node < x.node → Onward self.now.n self.now.row.now self.now.next.now y.node x.node) }
+            × (x.node < y.node → Onward self.now.n self.now.row.now self.now.trails.now.next x.node y.node)
+            × (y.node < x.node → Onward self.now.n self.now.row.now self.now.trails.now.next y.node x.node) }
         ensures { Ends self.now.n self.now.row.now (entry self.now.ends.now.first) (entry self.now.ends.now.last) x y result }
     {
         let u = self.level(y.node, x);
@@ -105,7 +103,7 @@ impl Ways<'_> {
     // the greater number goes past its beginning.
     fn meet(&self, a: Reach, b: Reach) -> Reach
         requires { Standard self.now.n self.now.row.now
-            × Paths self.now.n self.now.row.now (nodes self.now.row.now) self.now.head.now self.now.next.now
+            × Paths self.now.n self.now.row.now (nodes self.now.row.now) self.now.trails.now.head self.now.trails.now.next
             × (self.now.n ≤ a.node) × (a.node < nodes self.now.row.now)
             × (self.now.n ≤ b.node) × (b.node < nodes self.now.row.now) }
         ensures { Joins self.now.n self.now.row.now (entry self.now.ends.now.first) (entry self.now.ends.now.last) a b result }
@@ -129,7 +127,7 @@ impl Ways<'_> {
     // What is reached by two groups together; the first may be none.
     fn join(&self, a: Reach, b: Reach) -> Reach
         requires { Standard self.now.n self.now.row.now
-            × Paths self.now.n self.now.row.now (nodes self.now.row.now) self.now.head.now self.now.next.now
+            × Paths self.now.n self.now.row.now (nodes self.now.row.now) self.now.trails.now.head self.now.trails.now.next
             × NodeOrNone self.now.n self.now.row.now a.node
             × (self.now.n ≤ b.node) × (b.node < nodes self.now.row.now) }
         ensures { Joins self.now.n self.now.row.now (entry self.now.ends.now.first) (entry self.now.ends.now.last) a b result }
@@ -164,7 +162,7 @@ impl Ways<'_> {
     // Node v of the reference hands what it has got to its parent p.
     fn hand(&self, v: usize, p: usize, reached: &mut Reaches)
         requires { Standard self.now.n self.now.row.now
-            × Paths self.now.n self.now.row.now (nodes self.now.row.now) self.now.head.now self.now.next.now
+            × Paths self.now.n self.now.row.now (nodes self.now.row.now) self.now.trails.now.head self.now.trails.now.next
             × (v < table_words) × (p < table_words)
             × NodeOrNone self.now.n self.now.row.now (reach_at reached.old p).node
             × (self.now.n ≤ (reach_at reached.old v).node) × ((reach_at reached.old v).node < nodes self.now.row.now) }
@@ -177,7 +175,7 @@ impl Ways<'_> {
     // What each node of the reference reaches in the row.
     pub fn gather(&self, reference: &[u16], reached: &mut Reaches)
         requires { Standard self.now.n reference.now × Standard self.now.n self.now.row.now
-            × Paths self.now.n self.now.row.now (nodes self.now.row.now) self.now.head.now self.now.next.now }
+            × Paths self.now.n self.now.row.now (nodes self.now.row.now) self.now.trails.now.head self.now.trails.now.next }
         ensures { Gauged self.now.n reference.now self.now.row.now (entry self.now.ends.now.first) (entry self.now.ends.now.last)
             reached.new }
     {

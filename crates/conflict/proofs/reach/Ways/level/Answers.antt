@@ -8,13 +8,13 @@ use Rattle.conflict.proofs.reach.Ways.level.Goals.{After-from-then-x-y, Then-x-y
 use Rattle.conflict.proofs.reach.Ways.level.Goals as goal
 
 onward : (c : Then-x-y) → let a = c.args in
-    Onward a.self.now.n a.self.now.row.now a.self.now.next.now a.x a.y.node
+    Onward a.self.now.n a.self.now.row.now a.self.now.trails.now.next a.x a.y.node
 onward c = c.requires.2 (omega arith)
 
 -- the node of which the parent is taken
-goes : (c : After-from-then-x-y) → c.from-then-x-y.result ≡ entry c.args.self.now.next.now c.args.x
+goes : (c : After-from-then-x-y) → c.from-then-x-y.result ≡ entry c.args.self.now.trails.now.next c.args.x
 goes c =
-    c.from-then-x-y.ensures ∙ ap (entry c.args.self.now.next.now) c.from.ensures
+    c.from-then-x-y.ensures ∙ ap (entry c.args.self.now.trails.now.next) c.from.ensures
 
 pub up-requires : goal.up-requires
 up-requires c =

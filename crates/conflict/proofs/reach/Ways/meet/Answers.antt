@@ -96,7 +96,7 @@ settle-requires c =
     let i = c.loop-h.invariant in
     let w = i.2 in
     let f = standard_falls _ _ c.requires.0 in
-    let t = c.args.self.now.head.now in
+    let t = c.args.self.now.trails.now.head in
     let e : entry t c.loop-h.x.node ≡ entry t c.loop-h.y.node = omega (arith, i.0, i.1) in (
       c.requires.0,
       w.left.high,
