@@ -9,7 +9,7 @@ pub sweep-requires : goal.sweep-requires
 sweep-requires c =
     let q = c.requires.0 in
     let e = c.nodes.ensures in
-    (omega (arith, e, q.valid.low), omega (arith, e, few _ _ (standard_falls _ _ q)), rw e c.requires.5)
+    (omega (arith, e, q.valid.low), omega (arith, e, few _ _ (standard_falls _ _ q)), rw e c.requires.4)
 
 pub returns : goal.returns
 returns c =
