@@ -8,12 +8,6 @@ use Rattle.runs.specs.Words.{samples, in_force, in_force_at, slot_start}
 use Rattle.runs.proofs.SlotLaws.{formed_long, formed_fits, formed_few, slot_within}
 use Rattle.slots.proofs.store.close_run.Goals as goal
 
-pub in_force-k-requires : goal.in_force-k-requires
-in_force-k-requires c = search formed_long
-
-pub samples-requires : goal.samples-requires
-samples-requires c = search formed_long
-
 pub close_at-requires : goal.close_at-requires
 close_at-requires c =
     let w = c.args.words.now in

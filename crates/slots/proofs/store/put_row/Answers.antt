@@ -14,5 +14,5 @@ returns c =
     let a = c.args in
     let w = a.words.now in
     let r = renumbered a.n a.row.now in
-    ap (λ (ys : List ℕ). put_mid a.at (a.at + 2 * a.n - a.at) w ys) c.stored_row.ensures
+    ap (λ (ys : List ℕ). put_mid a.at (a.at + 2 * a.n - a.at) w ys) c.renumber_valid.ensures
     ∙ put_paste w r a.at (a.at + 2 * a.n) (row_words a.n) (renumbered_standard a.n a.row.now c.requires.1).valid.words refl

@@ -10,12 +10,6 @@ use Rattle.runs.specs.Moves.{put_at}
 use Rattle.runs.proofs.SlotLaws.{formed_long, formed_fits, next_fits, slot_order}
 use Rattle.slots.proofs.store.put_run.Goals as goal
 
-pub samples-n-requires : goal.samples-n-requires
-samples-n-requires c = search formed_long
-
-pub in_force-k-requires : goal.in_force-k-requires
-in_force-k-requires c = search formed_long
-
 pub put_at-requires : goal.put_at-requires
 put_at-requires c =
     let w = c.args.words.now in
