@@ -2,7 +2,7 @@
 use native.Mathlib.Omega.{arith}
 use lib.ListN.{length}
 use Rattle.runs.specs.Words.{samples, in_force}
-use Rattle.runs.proofs.SlotLaws.{formed_long, formed_fits, formed_few, slot_within}
+use Rattle.runs.proofs.SlotLaws.{formed_fits, formed_few, slot_within}
 use Rattle.slots.proofs.search.find_slot.Goals as goal
 
 pub slot_start-requires : goal.slot_start-requires

@@ -1,7 +1,6 @@
 -- `slots::span_of` meets its contract. Assumes nothing.
-use mathlib.Core.Path.{refl}
 use native.Mathlib.Omega.{arith}
-use Rattle.runs.proofs.SlotLaws.{formed_long, formed_few}
+use Rattle.runs.proofs.SlotLaws.{formed_few}
 use Rattle.slots.proofs.store.span_of.Goals as goal
 
 pub slot_start-requires : goal.slot_start-requires
@@ -11,7 +10,3 @@ slot_start-requires c =
 pub slot_start-requires-2 : goal.slot_start-requires-2
 slot_start-requires-2 c =
     rw (c.samples-n.ensures, c.in_force.ensures) (c.requires.0.most, formed_few c.args.words.now c.requires.0)
-
-pub returns : goal.returns
-returns c =
-    rw (c.slot_start.ensures, c.slot_start-2.ensures, c.samples-n.ensures, c.in_force.ensures) (refl, refl)

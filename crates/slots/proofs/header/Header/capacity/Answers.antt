@@ -1,8 +1,6 @@
 -- `slots::Header::capacity` meets its contract. Assumes nothing.
 use Rattle.runs.specs.Words.{capacity}
 use native.Mathlib.Omega.{arith}
-use Prim.Native.Nat.{ℕ, min, ◌/◌}
-use mathlib.Core.Path.{refl}
 use Rattle.slots.proofs.header.Header.capacity.Goals as goal
 
 pub returns : goal.returns
