@@ -42,7 +42,8 @@ fn add_valid(words: &mut [u16], id: u16, row: &[u16]) -> Answer
     let Answer::Accepted = room else {
         return room;
     };
-    put_run(words, spot.at, id, row);
+    let at = match spot { Ok(i) | Err(i) => i };
+    put_run(words, at, id, row);
     Answer::Accepted
 }
 
@@ -74,7 +75,8 @@ pub fn withdraw_formed(words: &mut [u16], id: u16) -> Answer
     let Answer::Accepted = a else {
         return a;
     };
-    close_run(words, spot.at);
+    let at = match spot { Ok(i) | Err(i) => i };
+    close_run(words, at);
     Answer::Accepted
 }
 

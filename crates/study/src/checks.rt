@@ -4,13 +4,13 @@ ghost use Rattle.trees.specs.Checks.{accepted, ◌⊳◌, asked, fewest_samples,
 ghost use Rattle.runs.specs.Formed.{Formed};
 ghost use Rattle.runs.specs.Calls.{check2, check4, check11, check12, check13, open_checks};
 ghost use Rattle.judge.specs.Verdicts.{verdict};
-ghost use Rattle.slots.specs.Slots.{Spotted};
+ghost use Rattle.slots.specs.Slots.{Found};
 ghost use Rattle.study.specs.Adding.{given_checks};
 
 use crate::form::well_formed;
 use judge::{Answer, Refusal, line};
 use quick::check_row;
-use slots::{Header, Spot, is_full};
+use slots::{Header, is_full};
 
 // Check 2: the study is not well formed (RULES 7.5).
 pub fn study_given(words: &[u16]) -> Answer
@@ -54,10 +54,10 @@ pub(crate) fn run_given(n: usize, id: u16, row: &[u16]) -> Answer
 }
 
 // Check 11 (RULES 7.5), by the spot of the identifier in a study: it is not in force yet.
-pub(crate) fn identifier_free(spot: Spot) -> Answer
-    ensures { (w : List ℕ) (d : ℕ) → Formed w → Spotted w d spot.at spot.taken → verdict result ≡ asked (check11 w d) }
+pub(crate) fn identifier_free(spot: Result<usize, usize>) -> Answer
+    ensures { (w : List ℕ) (d : ℕ) → Formed w → Found w d spot → verdict result ≡ asked (check11 w d) }
 {
-    line(Refusal::TAKEN, spot.taken)
+    line(Refusal::TAKEN, spot.is_ok())
 }
 
 // Check 12 (RULES 7.5): there is room for one more run.
@@ -69,8 +69,8 @@ pub(crate) fn room_left(words: &[u16]) -> Answer
 }
 
 // Check 13 (RULES 7.5), by the spot of the identifier in a study: it is in force.
-pub(crate) fn identifier_in_force(spot: Spot) -> Answer
-    ensures { (w : List ℕ) (d : ℕ) → Formed w → Spotted w d spot.at spot.taken → verdict result ≡ asked (check13 w d) }
+pub(crate) fn identifier_in_force(spot: Result<usize, usize>) -> Answer
+    ensures { (w : List ℕ) (d : ℕ) → Formed w → Found w d spot → verdict result ≡ asked (check13 w d) }
 {
-    line(Refusal::ABSENT, !spot.taken)
+    line(Refusal::ABSENT, spot.is_err())
 }
