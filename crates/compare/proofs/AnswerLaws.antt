@@ -8,16 +8,13 @@ use Rattle.trees.specs.Comparing.{compared}
 use Rattle.trees.specs.RowCalls.{moved, renumber_checks, compare_checks, comparing}
 use Rattle.trees.proofs.ChainLaws.{chain_append, chain_passed, passed_chain}
 use Rattle.trees.proofs.RowCallLaws.{moved_verdict, chain_moved, comparing_accepts}
-use Rattle.judge.specs.declared.Answer.{Answer}
-use Rattle.judge.specs.declared.Answer.TheVariants.{Accepted}
-use Rattle.judge.specs.Verdicts.{verdict}
 
 -- ---- the second row's checks
 
 -- what a row is answered by itself, with the place moved, is the answer of the second row's checks
-pub place_moved : (n : ℕ) (q : List ℕ) (a b : Answer) → verdict a ≡ row_checks n q ⊳ accepted → a ≡ b
-    → moved_verdict (row_words n) (verdict b) ≡ map (moved (row_words n)) (row_checks n q) ⊳ accepted
-place_moved n q a b e k = sym (chain_moved (row_words n) (row_checks n q) ∙ ap (moved_verdict (row_words n)) (sym e ∙ ap verdict k))
+pub place_moved : (n : ℕ) (q : List ℕ) (v : Verdict) → v ≡ row_checks n q ⊳ accepted
+    → moved_verdict (row_words n) v ≡ map (moved (row_words n)) (row_checks n q) ⊳ accepted
+place_moved n q v e = sym (chain_moved (row_words n) (row_checks n q) ∙ ap (moved_verdict (row_words n)) (sym e))
 
 module _ (n : ℕ) (r q : List ℕ) where
   abbrev seconds : List Check
@@ -29,9 +26,9 @@ module _ (n : ℕ) (r q : List ℕ) where
   checks_split v = chain_append (renumber_checks n r q) seconds v
 
   -- rows that pass all of them are valid
-  pub both_valid : (a : Answer) → verdict a ≡ compare_checks n r q ⊳ accepted → a ≡ Accepted → Valid n r × Valid n q
+  pub both_valid : accepted ≡ compare_checks n r q ⊳ accepted → Valid n r × Valid n q
   unfolding comparing
-  both_valid a e k = (comparing_accepts n r q).0 (passed_chain cs (compared n r q) (chain_passed cs (sym e ∙ ap verdict k)))
+  both_valid e = (comparing_accepts n r q).0 (passed_chain cs (compared n r q) (chain_passed cs (sym e)))
     where
       cs : List Check
       cs = compare_checks n r q

@@ -11,18 +11,20 @@ ghost use Rattle.trees.specs.Tables.{table_words};
 ghost use Rattle.trees.specs.Mates.{no_mate};
 ghost use Rattle.trees.specs.RowCalls.{moved, compare_checks, comparing};
 ghost use Rattle.judge.specs.Verdicts.{verdict};
-ghost use Rattle.compare.specs.Comparisons.{comparison};
+ghost use Rattle.compare.specs.Comparisons.{counts_verdict, comparison};
 
-use judge::Answer;
+use judge::Refusal;
+use mates::Chart;
 use passes::{TABLE, Table};
 use quick::check_row;
 use row::{check_first, renumber_valid};
 
-// Of the groups that are not trivial, how many both rows have, the first alone and the second alone (RULES 8.1, 8.2); or a refusal.
-#[derive(Clone, Copy)]
-pub enum Comparison {
-    Counted(usize, usize, usize),
-    Refused(usize, usize),
+// Of the groups that are not trivial, how many both rows have, the first alone and the second alone (RULES 8.1, 8.2).
+#[derive(Clone, Copy, Debug, PartialEq, Eq)]
+pub struct Comparison {
+    pub both: usize,
+    pub first: usize,
+    pub second: usize,
 }
 
 // How many of the nodes from a to below m have a mate.
@@ -31,12 +33,10 @@ fn mated(a: usize, m: usize, mate: &Table) -> usize
     ensures { result ≡ count (λ v. not (eqb (get_or mate.now v 0) no_mate)) (range a m) }
 {
     let mut found: usize = 0;
-    let mut v = a;
-    while v < m {
+    for v in a..m {
         if mate[v] != mates::NO_MATE {
             found += 1;
         }
-        v += 1;
     }
     found
 }
@@ -46,31 +46,30 @@ fn common(n: usize, a: &[u16], b: &[u16]) -> usize
     requires { Standard n a.now × Standard n b.now }
     ensures { result ≡ count (λ v. holds n (group_at n a.now v) b.now) (range (n + 1) (nodes a.now)) }
 {
-    let mut size: Table = [0; TABLE];
-    let mut low: Table = [0; TABLE];
-    let mut start: Table = [0; TABLE];
-    let mut mate: Table = [0; TABLE];
-    mates::tables(n, a, &mut size, &mut low, &mut start);
-    mates::mates(n, a, &size, &low, &start, b, &mut mate);
+    let mate = mates::mates(n, a, &Chart::of(n, a), b);
     mated(n + 1, judge::nodes(a), &mate)
 }
 
 // The counts of two standard rows: n + 1 groups of each are trivial.
 fn counts(n: usize, a: &[u16], b: &[u16]) -> Comparison
     requires { Standard n a.now × Standard n b.now }
-    ensures { comparison result ≡ compared n a.now b.now }
+    ensures { counts_verdict result ≡ compared n a.now b.now }
 {
     let both = common(n, a, b);
     let known = n + 1 + both;
     let first = judge::nodes(a) - known;
     let second = judge::nodes(b) - known;
-    Comparison::Counted(both, first, second)
+    Comparison {
+        both,
+        first,
+        second,
+    }
 }
 
 // The counts of two valid rows, by way of their standard rows, written to a and b.
 fn counts_by(n: usize, first: &[u16], second: &[u16], a: &mut [u16], b: &mut [u16]) -> Comparison
     requires { Valid n first.now × Valid n second.now × (length a.old ≡ row_words n) × (length b.old ≡ row_words n) }
-    ensures { comparison result ≡ compared n first.now second.now }
+    ensures { counts_verdict result ≡ compared n first.now second.now }
 {
     renumber_valid(n, first, a);
     renumber_valid(n, second, b);
@@ -80,7 +79,7 @@ fn counts_by(n: usize, first: &[u16], second: &[u16], a: &mut [u16], b: &mut [u1
 // The counts of two valid rows.
 fn counts_valid(n: usize, first: &[u16], second: &[u16]) -> Comparison
     requires { Valid n first.now × Valid n second.now }
-    ensures { comparison result ≡ compared n first.now second.now }
+    ensures { counts_verdict result ≡ compared n first.now second.now }
 {
     let w = 2 * n;
     let mut a: Table = [0; TABLE];
@@ -89,33 +88,28 @@ fn counts_valid(n: usize, first: &[u16], second: &[u16]) -> Comparison
 }
 
 // Checks 5 to 10 of the second row, with 2n added to the place.
-fn check_second(n: usize, second: &[u16]) -> Answer
+fn check_second(n: usize, second: &[u16]) -> Result<(), Refusal>
     requires { (fewest_samples ≤ n) × (n ≤ most_samples) × (length second.now ≡ row_words n) }
     ensures { verdict result ≡ map (moved (row_words n)) (row_checks n second.now) ⊳ accepted }
 {
-    let Answer::Refused(number, place) = check_row(n, second) else {
-        return Answer::Accepted;
+    let Err(refusal) = check_row(n, second) else {
+        return Ok(());
     };
-    Answer::Refused(number, place + 2 * n)
+    Err(Refusal::new(refusal.reason, refusal.place + 2 * n))
 }
 
 // The checks of comparing (RULES 7.7).
-fn rows_given(n: usize, first: &[u16], second: &[u16]) -> Answer
+fn rows_given(n: usize, first: &[u16], second: &[u16]) -> Result<(), Refusal>
     ensures { verdict result ≡ compare_checks n first.now second.now ⊳ accepted }
 {
-    let a = check_first(n, first, second);
-    let Answer::Accepted = a else {
-        return a;
-    };
+    check_first(n, first, second)?;
     check_second(n, second)
 }
 
 // Comparing: a refusal, or the three counts (RULES 8).
-pub fn compare(n: usize, first: &[u16], second: &[u16]) -> Comparison
+pub fn compare(n: usize, first: &[u16], second: &[u16]) -> Result<Comparison, Refusal>
     ensures { comparison result ≡ comparing n first.now second.now }
 {
-    let Answer::Refused(number, place) = rows_given(n, first, second) else {
-        return counts_valid(n, first, second);
-    };
-    Comparison::Refused(number, place)
+    rows_given(n, first, second)?;
+    Ok(counts_valid(n, first, second))
 }

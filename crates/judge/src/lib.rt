@@ -8,53 +8,54 @@ ghost use Rattle.trees.specs.Checks.{accepted, ◌⊳◌, asked, line, stray, fe
 ghost use Rattle.trees.specs.Checks.{check1, check3, check5, check6, check7, check8, check9, check10, word_checks, row_checks, judged};
 ghost use Rattle.trees.specs.RowCalls.{check3_both};
 ghost use Rattle.trees.specs.Rows.{Closed};
-ghost use Rattle.judge.specs.Verdicts.{verdict};
+ghost use Rattle.judge.specs.Verdicts.{number_of, verdict};
 
-// Acceptance, or the number and the place of a refusal (RULES 7.1).
-#[derive(Clone, Copy)]
-pub enum Answer {
-    Accepted,
-    Refused(usize, usize),
+// Why a call is refused: each is a line of RULES 7.5, and has that line's number.
+#[derive(Clone, Copy, Debug, PartialEq, Eq)]
+pub enum Reason {
+    Samples = 1,
+    Study = 2,
+    Words = 3,
+    Identifier = 4,
+    Nodes = 5,
+    Parent = 6,
+    Root = 7,
+    Filler = 8,
+    Lost = 9,
+    Children = 10,
+    Taken = 11,
+    Full = 12,
+    Absent = 13,
+    Empty = 14,
+    File = 15,
+    Threshold = 16,
+    Form = 17,
+    Leaves = 18,
 }
 
-// The numbers of the refusals (RULES 7.5).
-#[derive(Clone, Copy)]
-pub struct Refusal;
+impl Reason {
+    // The number of the refusal (RULES 7.5).
+    pub fn number(self) -> usize
+        ensures { result ≡ number_of self }
+    {
+        self as usize
+    }
+}
+
+// A refusal: why, and at which place (RULES 7.1).
+#[derive(Clone, Copy, Debug, PartialEq, Eq)]
+pub struct Refusal {
+    pub reason: Reason,
+    pub place: usize,
+}
 
 impl Refusal {
-    pub const SAMPLES: usize = 1;
-
-    pub const STUDY: usize = 2;
-
-    pub const WORDS: usize = 3;
-
-    pub const IDENTIFIER: usize = 4;
-
-    pub const NODES: usize = 5;
-
-    pub const PARENT: usize = 6;
-
-    pub const ROOT: usize = 7;
-
-    pub const FILLER: usize = 8;
-
-    pub const LOST: usize = 9;
-
-    pub const CHILDREN: usize = 10;
-
-    pub const TAKEN: usize = 11;
-
-    pub const FULL: usize = 12;
-
-    pub const ABSENT: usize = 13;
-
-    pub const EMPTY: usize = 14;
-
-    pub const THRESHOLD: usize = 16;
-
-    pub const FORM: usize = 17;
-
-    pub const LEAVES: usize = 18;
+    // A refusal at a place.
+    pub fn new(reason: Reason, place: usize) -> Refusal
+        ensures { result ≡ record { reason = reason; place = place } }
+    {
+        Refusal { reason, place }
+    }
 }
 
 // How few samples there can be, and how many (RULES 1.1).
@@ -80,7 +81,7 @@ pub fn nodes(row: &[u16]) -> usize
     requires { 0 < length row.now }
     ensures { result ≡ nodes row.now }
 {
-    wide(row[0])
+    usize::from(row[0])
 }
 
 // The parent of node v (RULES 2.2).
@@ -88,52 +89,52 @@ pub fn parent(row: &[u16], v: usize) -> usize
     requires { v + 1 < length row.now }
     ensures { result ≡ parent row.now v }
 {
-    wide(row[v + 1])
+    usize::from(row[v + 1])
 }
 
 // A check whose place is 0 (RULES 7.3): refused with its number where it applies.
-pub fn line(number: usize, applies: bool) -> Answer
-    ensures { verdict result ≡ asked (line number applies) }
+pub fn line(reason: Reason, applies: bool) -> Result<(), Refusal>
+    ensures { verdict result ≡ asked (line (number_of reason) applies) }
 {
     if applies {
-        return Answer::Refused(number, 0);
+        return Err(Refusal::new(reason, 0));
     }
-    Answer::Accepted
+    Ok(())
 }
 
 // Check 1: the number of samples is out of range (RULES 7.5).
-pub fn samples(n: usize) -> Answer
+pub fn samples(n: usize) -> Result<(), Refusal>
     ensures { verdict result ≡ asked (check1 n) }
 {
-    line(Refusal::SAMPLES, (n < FEWEST_SAMPLES) | (MOST_SAMPLES < n))
+    line(Reason::Samples, (n < FEWEST_SAMPLES) | (MOST_SAMPLES < n))
 }
 
 // Check 3: a row has the wrong length (RULES 7.5).
-pub fn words(n: usize, row: &[u16]) -> Answer
+pub fn words(n: usize, row: &[u16]) -> Result<(), Refusal>
     requires { n ≤ most_samples }
     ensures { verdict result ≡ asked (check3 n row.now) }
 {
-    line(Refusal::WORDS, row.len() != 2 * n)
+    line(Reason::Words, row.len() != 2 * n)
 }
 
 // Check 3 of two buffers: one of them has the wrong length (RULES 7.5).
-pub fn words_both(n: usize, first: &[u16], second: &[u16]) -> Answer
+pub fn words_both(n: usize, first: &[u16], second: &[u16]) -> Result<(), Refusal>
     requires { n ≤ most_samples }
     ensures { verdict result ≡ asked (check3_both n first.now second.now) }
 {
     line(
-        Refusal::WORDS,
+        Reason::Words,
         (first.len() != 2 * n) | (second.len() != 2 * n),
     )
 }
 
 // Check 5: the number of nodes is out of range (RULES 7.5).
-fn nodes_in_range(n: usize, row: &[u16]) -> Answer
+fn nodes_in_range(n: usize, row: &[u16]) -> Result<(), Refusal>
     requires { (fewest_samples ≤ n) × (n ≤ most_samples) × (0 < length row.now) }
     ensures { verdict result ≡ asked (check5 n row.now) }
 {
     let m = nodes(row);
-    line(Refusal::NODES, (m < n + 1) | (2 * n - 1 < m))
+    line(Reason::Nodes, (m < n + 1) | (2 * n - 1 < m))
 }
 
 // Whether p is wrong as the parent of v: not an inner node, nor, where v is one, the root's mark.
@@ -144,20 +145,18 @@ fn stray(n: usize, m: usize, v: usize, p: usize) -> bool
 }
 
 // Check 6: a wrong parent, at the lowest node that has one (RULES 7.5).
-fn parents(n: usize, row: &[u16]) -> Answer
+fn parents(n: usize, row: &[u16]) -> Result<(), Refusal>
     requires { nodes row.now < length row.now }
     ensures { verdict result ≡ asked (check6 n row.now) }
 {
     let m = nodes(row);
-    let mut v: usize = 0;
-    while v < m {
+    for v in 0..m {
         let p = parent(row, v);
         if stray(n, m, v, p) {
-            return Answer::Refused(Refusal::PARENT, v);
+            return Err(Refusal::new(Reason::Parent, v));
         }
-        v += 1;
     }
-    Answer::Accepted
+    Ok(())
 }
 
 // How many of the nodes from a on have the parent p.
@@ -167,37 +166,33 @@ fn children(row: &[u16], a: usize, p: usize) -> usize
 {
     let m = nodes(row);
     let mut found: usize = 0;
-    let mut u = a;
-    while u < m {
+    for u in a..m {
         if parent(row, u) == p {
             found += 1;
         }
-        u += 1;
     }
     found
 }
 
 // Check 7: no root among the inner nodes, or more than one (RULES 7.5).
-fn roots(n: usize, row: &[u16]) -> Answer
+fn roots(n: usize, row: &[u16]) -> Result<(), Refusal>
     requires { nodes row.now < length row.now }
     ensures { verdict result ≡ asked (check7 n row.now) }
 {
-    line(Refusal::ROOT, children(row, n, ROOT_MARK) != 1)
+    line(Reason::Root, children(row, n, ROOT_MARK) != 1)
 }
 
 // Check 8: a word after the last node's that is not 0, the lowest of them (RULES 7.5).
-pub fn filler(n: usize, row: &[u16]) -> Answer
+pub fn filler(n: usize, row: &[u16]) -> Result<(), Refusal>
     requires { (nodes row.now < length row.now) × (length row.now ≡ row_words n) }
     ensures { verdict result ≡ asked (check8 n row.now) }
 {
-    let mut w = nodes(row) + 1;
-    while w < row.len() {
+    for w in nodes(row) + 1..row.len() {
         if row[w] != 0 {
-            return Answer::Refused(Refusal::FILLER, w);
+            return Err(Refusal::new(Reason::Filler, w));
         }
-        w += 1;
     }
-    Answer::Accepted
+    Ok(())
 }
 
 // Whether the way up from v comes to the root, in as many steps as there are nodes.
@@ -206,100 +201,74 @@ fn ends(row: &[u16], v: usize) -> bool
     ensures { result ≡ ends (nodes row.now) row.now v }
 {
     let mut at = v;
-    let mut left = nodes(row);
-    while 0 < left {
+    let m = nodes(row);
+    for passed in 0..m {
         let p = parent(row, at);
         if p == ROOT_MARK {
             return true;
         }
         at = p;
-        left -= 1;
     }
     false
 }
 
 // Check 9: the lowest node whose way up never comes to the root (RULES 7.5).
 // For judging, which keeps no table: each node is climbed from anew. The other calls use the form of `quick`.
-fn climbing(row: &[u16]) -> Answer
+fn climbing(row: &[u16]) -> Result<(), Refusal>
     requires { (nodes row.now < length row.now) × Closed (nodes row.now) row.now }
     ensures { (n : ℕ) → verdict result ≡ asked (check9 n row.now) }
 {
     let m = nodes(row);
-    let mut start: usize = 0;
-    while start < m {
+    for start in 0..m {
         if !ends(row, start) {
-            return Answer::Refused(Refusal::LOST, start);
+            return Err(Refusal::new(Reason::Lost, start));
         }
-        start += 1;
     }
-    Answer::Accepted
+    Ok(())
 }
 
 // Check 10: the lowest inner node with no child at all (RULES 7.5).
 // For judging, which keeps no table: the row is scanned for each inner node. The other calls use the form of `quick`.
-fn branching(n: usize, row: &[u16]) -> Answer
+fn branching(n: usize, row: &[u16]) -> Result<(), Refusal>
     requires { nodes row.now < length row.now }
     ensures { verdict result ≡ asked (check10 n row.now) }
 {
     let m = nodes(row);
-    let mut v = n;
-    while v < m {
+    for v in n..m {
         if children(row, 0, v) < FEWEST_CHILDREN {
-            return Answer::Refused(Refusal::CHILDREN, v);
+            return Err(Refusal::new(Reason::Children, v));
         }
-        v += 1;
     }
-    Answer::Accepted
+    Ok(())
 }
 
 // Checks 5 to 8, of a row of the right length for n: the first that applies is the answer (RULES 7.2).
-pub fn check_words(n: usize, row: &[u16]) -> Answer
+pub fn check_words(n: usize, row: &[u16]) -> Result<(), Refusal>
     requires { (fewest_samples ≤ n) × (n ≤ most_samples) × (length row.now ≡ row_words n) }
     ensures { verdict result ≡ word_checks n row.now ⊳ accepted }
 {
-    let a = nodes_in_range(n, row);
-    let Answer::Accepted = a else {
-        return a;
-    };
-    let a = parents(n, row);
-    let Answer::Accepted = a else {
-        return a;
-    };
-    let a = roots(n, row);
-    let Answer::Accepted = a else {
-        return a;
-    };
+    nodes_in_range(n, row)?;
+    parents(n, row)?;
+    roots(n, row)?;
     filler(n, row)
 }
 
 // Checks 5 to 10, of a row of the right length for n: the first that applies is the answer (RULES 7.2).
 // For judging, which keeps no table. The other calls use the form of `quick`.
-fn check_row(n: usize, row: &[u16]) -> Answer
+fn check_row(n: usize, row: &[u16]) -> Result<(), Refusal>
     requires { (fewest_samples ≤ n) × (n ≤ most_samples) × (length row.now ≡ row_words n) }
     ensures { verdict result ≡ row_checks n row.now ⊳ accepted }
 {
-    let a = check_words(n, row);
-    let Answer::Accepted = a else {
-        return a;
-    };
-    let a = climbing(row);
-    let Answer::Accepted = a else {
-        return a;
-    };
+    check_words(n, row)?;
+    climbing(row)?;
     branching(n, row)
 }
 
 // Judging, checks 1, 3 and 5 to 10: the first that applies is the answer (RULES 7.2).
-pub fn judge(n: usize, row: &[u16]) -> Answer
+pub fn judge(n: usize, row: &[u16]) -> Result<(), Refusal>
     ensures { verdict result ≡ judged n row.now }
 {
-    let a = samples(n);
-    let Answer::Accepted = a else {
-        return a;
-    };
-    let a = words(n, row);
-    let Answer::Accepted = a else {
-        return a;
-    };
+    samples(n)?;
+    words(n, row)?;
     check_row(n, row)
 }

@@ -5,6 +5,6 @@ mod pass;
 mod standard;
 mod turns;
 
-pub use pass::{RANK_STEP, TABLE, Table, least, lesser, rank, ranks, starts};
+pub use pass::{RANK_STEP, Ranks, TABLE, Table, least, starts};
 pub use standard::is_standard;
 pub use turns::{Edge, step};

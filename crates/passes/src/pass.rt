@@ -1,5 +1,5 @@
 // Tables of a falling row, each made by one pass: sizes with offsets, least keys, starts of intervals.
-ghost use Rattle.std.specs.Prelude.{◌≡◌, ◌+◌, ◌-◌, ◌<◌, ◌≤◌, min, length, get_or, set};
+ghost use Rattle.std.specs.Prelude.{◌≡◌, ◌+◌, ◌-◌, ◌<◌, ◌≤◌, min, get_or, set};
 ghost use Rattle.trees.specs.Rows.{nodes};
 ghost use Rattle.trees.specs.Checks.{most_samples};
 ghost use Rattle.trees.specs.Falls.{Falls};
@@ -7,7 +7,7 @@ ghost use Rattle.trees.specs.Tables.{Tabled, table_words, entry, one, own, seede
 ghost use Rattle.trees.specs.Passes.{Stage, Offsets, Sized, Ranked, Starts};
 
 use crate::turns::step;
-use judge::{nodes, wide};
+use judge::nodes;
 
 // A table has a word for each node of the largest row.
 pub const TABLE: usize = 1024;
@@ -33,8 +33,8 @@ fn initial(n: usize, key: &Table, e: u16, v: usize) -> u16
 
 // The table that a pass starts with.
 fn seed(n: usize, m: usize, key: &Table, e: u16, t: &mut Table)
-    requires { (n ≤ most_samples) × (m ≤ table_words) × (length t.old ≡ table_words) }
-    ensures { Tabled (seeded n (entry key.now) e) 0 m t.new × (length t.new ≡ table_words) }
+    requires { (n ≤ most_samples) × (m ≤ table_words) }
+    ensures { Tabled (seeded n (entry key.now) e) 0 m t.new }
 {
     let mut v = 0;
     while v < m {
@@ -45,8 +45,7 @@ fn seed(n: usize, m: usize, key: &Table, e: u16, t: &mut Table)
 
 // Node v hands its samples to its parent p, where they come after those that p has.
 fn hand(size: &mut Table, off: &mut Table, v: usize, p: usize)
-    requires { (v < table_words) × (p < table_words) × (length size.old ≡ table_words) × (length off.old ≡ table_words)
-        × (get_or size.old p 0 + get_or size.old v 0 < 65536) }
+    requires { (v < table_words) × (p < table_words) × (get_or size.old p 0 + get_or size.old v 0 < 65536) }
     ensures { (size.new ≡ set size.old p (get_or size.old p 0 + get_or size.old v 0))
         × (off.new ≡ set off.old v (get_or size.old p 0)) }
 {
@@ -56,8 +55,7 @@ fn hand(size: &mut Table, off: &mut Table, v: usize, p: usize)
 
 // The pass that adds.
 fn add_up(n: usize, row: &[u16], m: usize, size: &mut Table, off: &mut Table)
-    requires { Falls n row.now × (m ≡ nodes row.now) × (length size.old ≡ table_words) × (length off.old ≡ table_words)
-        × Stage n row.now ◌+◌ 0 one 0 size.old }
+    requires { Falls n row.now × (m ≡ nodes row.now) × Stage n row.now ◌+◌ 0 one 0 size.old }
     ensures { Sized n row.now size.new off.new }
 {
     let mut done = 0;
@@ -69,8 +67,8 @@ fn add_up(n: usize, row: &[u16], m: usize, size: &mut Table, off: &mut Table)
 }
 
 // The size of each node's group, and where its samples start among those of its parent.
-pub fn sizes(n: usize, row: &[u16], size: &mut Table, off: &mut Table)
-    requires { Falls n row.now × (length size.old ≡ table_words) × (length off.old ≡ table_words) }
+fn sizes(n: usize, row: &[u16], size: &mut Table, off: &mut Table)
+    requires { Falls n row.now }
     ensures { Sized n row.now size.new off.new }
 {
     let m = nodes(row);
@@ -78,27 +76,17 @@ pub fn sizes(n: usize, row: &[u16], size: &mut Table, off: &mut Table)
     add_up(n, row, m, size, off);
 }
 
-// The lesser of two words.
-pub fn lesser(a: u16, b: u16) -> u16
-    ensures { result ≡ min a b }
-{
-    if a < b {
-        return a;
-    }
-    b
-}
-
 // The key at p is lowered to that at v.
 fn lower(t: &mut Table, v: usize, p: usize)
-    requires { (v < table_words) × (p < table_words) × (length t.old ≡ table_words) }
+    requires { (v < table_words) × (p < table_words) }
     ensures { t.new ≡ set t.old p (min (get_or t.old p 0) (get_or t.old v 0)) }
 {
-    t[p] = lesser(t[p], t[v]);
+    t[p] = t[p].min(t[v]);
 }
 
 // The least key of the samples of each node's group.
 pub fn least(n: usize, row: &[u16], key: &Table, out: &mut Table)
-    requires { Falls n row.now × Keys n key.now × (length out.old ≡ table_words) }
+    requires { Falls n row.now × Keys n key.now }
     ensures { Tabled (least_at n row.now (entry key.now)) 0 (nodes row.now) out.new }
 {
     let m = nodes(row);
@@ -113,7 +101,7 @@ pub fn least(n: usize, row: &[u16], key: &Table, out: &mut Table)
 
 // The interval of v starts at its offset inside that of p.
 fn place(start: &mut Table, off: &Table, v: usize, p: usize)
-    requires { (v < table_words) × (p < table_words) × (length start.old ≡ table_words) × (get_or start.old p 0 + get_or off.now v 0 < 65536) }
+    requires { (v < table_words) × (p < table_words) × (get_or start.old p 0 + get_or off.now v 0 < 65536) }
     ensures { start.new ≡ set start.old v (get_or start.old p 0 + get_or off.now v 0) }
 {
     start[v] = start[p] + off[v];
@@ -121,7 +109,7 @@ fn place(start: &mut Table, off: &Table, v: usize, p: usize)
 
 // Where each node's interval of places starts; a sample's is its place. The root comes first, and each node after its parent.
 pub fn starts(n: usize, row: &[u16], off: &Table, start: &mut Table)
-    requires { Falls n row.now × Offsets n row.now (nodes row.now - 1) off.now × (length start.old ≡ table_words) }
+    requires { Falls n row.now × Offsets n row.now (nodes row.now - 1) off.now }
     ensures { Starts n row.now (entry start.new) }
 {
     let m = nodes(row);
@@ -136,7 +124,7 @@ pub fn starts(n: usize, row: &[u16], off: &Table, start: &mut Table)
 
 // Each sample its own key.
 fn numbers(n: usize, t: &mut Table)
-    requires { (n ≤ most_samples) × (length t.old ≡ table_words) }
+    requires { (n ≤ most_samples) }
     ensures { Tabled own 0 n t.new }
 {
     let mut s = 0;
@@ -146,21 +134,44 @@ fn numbers(n: usize, t: &mut Table)
     }
 }
 
-// Sizes with offsets, and smallest samples.
-pub fn ranks(n: usize, row: &[u16], size: &mut Table, off: &mut Table, low: &mut Table)
-    requires { Falls n row.now × (length size.old ≡ table_words) × (length off.old ≡ table_words) × (length low.old ≡ table_words) }
-    ensures { Ranked n row.now size.new low.new × Sized n row.now size.new off.new }
-{
-    let mut key: Table = [0; TABLE];
-    sizes(n, row, size, off);
-    numbers(n, &mut key);
-    least(n, row, &key, low);
+// The size of each node's group and its smallest sample: they settle the order of nodes (RULES 4.1).
+#[derive(Clone, Copy)]
+pub struct Ranks {
+    pub size: Table,
+    pub low: Table,
 }
 
-// The rank of a node in standard order, as one number that rises: the size weighs most, then the smallest sample (RULES 4.1).
-pub fn rank(n: usize, size: &Table, low: &Table, v: usize) -> usize
-    requires { (v < table_words) × (n ≤ most_samples) × (get_or size.now v 0 ≤ n) }
-    ensures { result ≡ rank_of n (get_or size.now v 0) (get_or low.now v 0) }
-{
-    RANK_STEP * (n - wide(size[v])) + wide(low[v])
+impl Ranks {
+    // Those of a row.
+    pub fn of(n: usize, row: &[u16]) -> Ranks
+        requires { Falls n row.now }
+        ensures { Ranked n row.now result.size result.low }
+    {
+        let mut off: Table = [0; TABLE];
+        Ranks::with_offsets(n, row, &mut off)
+    }
+
+    // Those of a row, and where each node's samples start among those of its parent.
+    pub fn with_offsets(n: usize, row: &[u16], off: &mut Table) -> Ranks
+        requires { Falls n row.now }
+        ensures { Ranked n row.now result.size result.low × Sized n row.now result.size off.new }
+    {
+        let mut ranks = Ranks {
+            size: [0; TABLE],
+            low: [0; TABLE],
+        };
+        let mut key: Table = [0; TABLE];
+        sizes(n, row, &mut ranks.size, off);
+        numbers(n, &mut key);
+        least(n, row, &key, &mut ranks.low);
+        ranks
+    }
+
+    // The rank of a node in standard order, as one number that rises: the size weighs most, then the smallest sample.
+    pub fn rank(&self, n: usize, v: usize) -> usize
+        requires { (v < table_words) × (n ≤ most_samples) × (get_or self.now.size v 0 ≤ n) }
+        ensures { result ≡ rank_of n (get_or self.now.size v 0) (get_or self.now.low v 0) }
+    {
+        RANK_STEP * (n - usize::from(self.size[v])) + usize::from(self.low[v])
+    }
 }

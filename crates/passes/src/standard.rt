@@ -7,8 +7,8 @@ ghost use Rattle.trees.specs.Falls.{Falls, rightful, falling};
 ghost use Rattle.trees.specs.Tables.{table_words, Most, rank_in};
 ghost use Rattle.trees.specs.Linear.{filler_zero, rising, ranked};
 
-use crate::pass::{TABLE, Table, rank, ranks};
-use judge::{Answer, ROOT_MARK, nodes, parent};
+use crate::pass::Ranks;
+use judge::{ROOT_MARK, nodes, parent};
 
 // The samples that the last inner node has at least.
 const SMALLEST: u16 = 2;
@@ -48,20 +48,17 @@ fn filler_zero(n: usize, row: &[u16]) -> bool
     requires { (length row.now ≡ row_words n) × (nodes row.now < row_words n) }
     ensures { result ≡ filler_zero n row.now }
 {
-    let Answer::Accepted = judge::filler(n, row) else {
-        return false;
-    };
-    true
+    judge::filler(n, row).is_ok()
 }
 
 // Whether each rank from n to below last is less than the next.
-fn rising(n: usize, last: usize, size: &Table, low: &Table) -> bool
-    requires { (n ≤ most_samples) × (last < table_words) × Most n (last + 1) size.now }
-    ensures { result ≡ rising (rank_in n size.now low.now) n last }
+fn rising(n: usize, last: usize, ranks: &Ranks) -> bool
+    requires { (n ≤ most_samples) × (last < table_words) × Most n (last + 1) ranks.now.size }
+    ensures { result ≡ rising (rank_in n ranks.now.size ranks.now.low) n last }
 {
     let mut v = n;
     while v < last {
-        if rank(n, size, low, v + 1) <= rank(n, size, low, v) {
+        if ranks.rank(n, v + 1) <= ranks.rank(n, v) {
             return false;
         }
         v += 1;
@@ -74,12 +71,9 @@ fn ranked(n: usize, row: &[u16]) -> bool
     requires { Falls n row.now }
     ensures { result ≡ ranked n row.now }
 {
-    let mut size: Table = [0; TABLE];
-    let mut off: Table = [0; TABLE];
-    let mut low: Table = [0; TABLE];
-    ranks(n, row, &mut size, &mut off, &mut low);
+    let ranks = Ranks::of(n, row);
     let last = nodes(row) - 1;
-    (SMALLEST <= size[last]) & rising(n, last, &size, &low)
+    (SMALLEST <= ranks.size[last]) & rising(n, last, &ranks)
 }
 
 // Whether a row is valid and in standard numbering (RULES 4). It counts no children: ranks that rise, and two samples in the last node, imply two each.

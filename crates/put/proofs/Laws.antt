@@ -5,11 +5,13 @@ use mathlib.Core.List.{List, [], ◌∷◌, ◌++◌}
 use native.Mathlib.Omega.{arith}
 use native.Mathlib.Numerals.{add-one}
 use lib.ListN.{length, get_or, drop, set, length-set}
-use lib.Seq.{sets, drop-cons}
+use lib.Seq.{sets, sets-eq, drop-cons, drop-drop}
+use Rattle.std.proofs.Common.{append_assoc}
+use borrow.Rule.Slice.PartMut.{put_mid}
 use Rattle.ascii.specs.Decimal.{digit, decimal}
 use Rattle.ascii.specs.DecimalLaws.{decimal_small, decimal_step, decimal_longer, decimal_full}
 use Rattle.put.specs.Writing.{Put}
-use Rattle.put.specs.WritingLaws.{sets_append, sets_set, put_none, put_byte, put_then, put_length}
+use Rattle.put.specs.WritingLaws.{sets_append, sets_set, put_none, put_then, put_length}
 
 -- What is left of a text, put from here on, puts the whole of it from where it began.
 pub record Left (rest out : List ℕ) (at : ℕ) (text out₀ : List ℕ) (at₀ : ℕ) : Type 0 where
@@ -29,12 +31,12 @@ module _ {text out₀ out : List ℕ} {at at₀ : ℕ} where
 pub drop_next : (xs : List ℕ) (i : ℕ) → i < length xs → drop i xs ≡ get_or xs i 0 ∷ drop (i + 1) xs
 drop_next xs i h = drop-cons xs i 0 h ∙ ap (λ (j : ℕ). get_or xs i 0 ∷ drop j xs) (sym (add-one i))
 
--- a list put element by element
-pub left_next : {text out₀ out : List ℕ} {at : ℕ} (i : ℕ) → i < length text → Left (drop i text) out (at + i) text out₀ at
-    → Left (drop (i + 1) text) (set out (at + i) (get_or text i 0)) (at + (i + 1)) text out₀ at
-left_next {text} {out₀} {out} {at} i h l =
-    let e : at + (i + 1) ≡ at + i + 1 = omega arith in
-    rw e (left_put (drop (i + 1) text) (rw (drop_next text i h) at l) put_byte)
+-- a text copied over as many bytes
+pub put_copied : (text out part : List ℕ) (at : ℕ) → at + length text ≤ length out → part ≡ text
+    → Put text out at (put_mid at (at + length text - at) out part) (at + length text)
+put_copied text out part at h e =
+    let l : at + length text - at ≡ length text = omega arith in
+    record { bytes = rw (e, l, sets-eq text out at h, drop-drop, append_assoc); place = refl }
 
 -- The digits of the rest, stored from at on, make the digits of x; the last of them belongs at i.
 pub record DigitsLeft (x at : ℕ) (out₀ : List ℕ) (i rest : ℕ) (out : List ℕ) : Type 0 where

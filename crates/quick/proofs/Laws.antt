@@ -5,14 +5,11 @@ use mathlib.Core.List.{List}
 use native.Mathlib.Omega.{arith}
 use lib.ListN.{length}
 use Rattle.trees.specs.Checks.{accepted, ◌⊳◌, fewest_samples, most_samples, row_words, word_checks}
-use Rattle.judge.specs.declared.Answer.{Answer}
-use Rattle.judge.specs.declared.Answer.TheVariants.{Accepted}
-use Rattle.judge.specs.Verdicts.{verdict}
 use Rattle.judge.proofs.Laws.{words_nodes, words_closed}
 use Rattle.quick.specs.Layout.{LaidOut}
 
-pub laid_out : (n : ℕ) (row : List ℕ) (a : Answer) → verdict a ≡ word_checks n row ⊳ accepted → a ≡ Accepted → fewest_samples ≤ n → n ≤ most_samples
-    → length row ≡ row_words n → LaidOut row
-laid_out n row a e q h k l =
-    let w = words_nodes n row a e q h l in
-    record { words = w; fits = omega arith; closed = words_closed n row a e q }
+pub laid_out : (n : ℕ) (row : List ℕ) → accepted ≡ word_checks n row ⊳ accepted → fewest_samples ≤ n → n ≤ most_samples → length row ≡ row_words n
+    → LaidOut row
+laid_out n row e h k l =
+    let w = words_nodes n row e h l in
+    record { words = w; fits = omega arith; closed = words_closed n row e }

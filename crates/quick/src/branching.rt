@@ -7,7 +7,7 @@ ghost use Rattle.judge.specs.Verdicts.{verdict};
 ghost use Rattle.quick.specs.Layout.{LaidOut};
 
 use crate::tally::tally;
-use judge::{Answer, FEWEST_CHILDREN, Refusal, nodes, wide};
+use judge::{FEWEST_CHILDREN, Reason, Refusal, nodes};
 use passes::{TABLE, Table};
 
 // The children of each node, counted: the words of a row after the first are the parents.
@@ -19,24 +19,22 @@ fn count_children(row: &[u16], counts: &mut Table)
 }
 
 // Check 10, where the children are counted.
-fn branching_counted(n: usize, row: &[u16], counts: &Table) -> Answer
+fn branching_counted(n: usize, row: &[u16], counts: &Table) -> Result<(), Refusal>
     requires { LaidOut row.now × Tabled (children row.now) 0 table_words counts.now }
     ensures { verdict result ≡ asked (check10 n row.now) }
 {
     let m = nodes(row);
-    let mut v = n;
-    while v < m {
-        if wide(counts[v]) < FEWEST_CHILDREN {
-            return Answer::Refused(Refusal::CHILDREN, v);
+    for v in n..m {
+        if usize::from(counts[v]) < FEWEST_CHILDREN {
+            return Err(Refusal::new(Reason::Children, v));
         }
-        v += 1;
     }
-    Answer::Accepted
+    Ok(())
 }
 
 // Check 10: the lowest inner node with no child at all (RULES 7.5).
 // For adding, renumbering and comparing, which have room for a table: linear. Judging uses the form of `judge`.
-pub(crate) fn branching(n: usize, row: &[u16]) -> Answer
+pub(crate) fn branching(n: usize, row: &[u16]) -> Result<(), Refusal>
     requires { LaidOut row.now }
     ensures { verdict result ≡ asked (check10 n row.now) }
 {

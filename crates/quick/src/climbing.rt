@@ -6,23 +6,21 @@ ghost use Rattle.judge.specs.Verdicts.{verdict};
 ghost use Rattle.quick.specs.Layout.{LaidOut};
 ghost use Rattle.quick.specs.Marking.{Marked};
 
-use judge::{Answer, ROOT_MARK, Refusal, nodes, parent};
-use passes::{TABLE, Table};
+use judge::{ROOT_MARK, Reason, Refusal, nodes, parent};
+use passes::TABLE;
 
-// The entry of a node that is not known to come to the root, and of one that is.
-const UNKNOWN: u16 = 0;
-
-const KNOWN: u16 = 1;
+// Of each node whether it is known to come to the root.
+type Marks = [bool; TABLE];
 
 // Whether the way up from v comes to the root: it does if it comes to a marked node.
-fn reaches(row: &[u16], marks: &Table, v: usize) -> bool
+fn reaches(row: &[u16], marks: &Marks, v: usize) -> bool
     requires { LaidOut row.now × Marked row.now marks.now × (v < nodes row.now) }
     ensures { result ≡ ends (nodes row.now) row.now v }
 {
     let mut at = v;
-    let mut left = nodes(row);
-    while 0 < left {
-        if marks[at] != UNKNOWN {
+    let m = nodes(row);
+    for passed in 0..m {
+        if marks[at] {
             return true;
         }
         let p = parent(row, at);
@@ -30,19 +28,18 @@ fn reaches(row: &[u16], marks: &Table, v: usize) -> bool
             return true;
         }
         at = p;
-        left -= 1;
     }
     false
 }
 
 // Marks the nodes that the way up from v passes until it comes to a marked one, where it does come to the root.
-fn mark(row: &[u16], marks: &mut Table, v: usize)
+fn mark(row: &[u16], marks: &mut Marks, v: usize)
     requires { LaidOut row.now × Marked row.now marks.old × (v < nodes row.now) × (ends (nodes row.now) row.now v ≡ true) }
     ensures { Marked row.now marks.new }
 {
     let mut at = v;
-    while marks[at] == UNKNOWN {
-        marks[at] = KNOWN;
+    while !marks[at] {
+        marks[at] = true;
         let p = parent(row, at);
         if p == ROOT_MARK {
             return;
@@ -53,28 +50,26 @@ fn mark(row: &[u16], marks: &mut Table, v: usize)
 
 // Check 9, with marks. Each node is marked once, and but for its last node a climb that ends passes only nodes that are marked then: so the
 // climbs that end are linear together, and one that does not is the last.
-fn climbing_marked(row: &[u16], marks: &mut Table) -> Answer
+fn climbing_marked(row: &[u16], marks: &mut Marks) -> Result<(), Refusal>
     requires { LaidOut row.now × Marked row.now marks.old }
     ensures { (n : ℕ) → verdict result ≡ asked (check9 n row.now) }
 {
     let m = nodes(row);
-    let mut start: usize = 0;
-    while start < m {
+    for start in 0..m {
         if !reaches(row, marks, start) {
-            return Answer::Refused(Refusal::LOST, start);
+            return Err(Refusal::new(Reason::Lost, start));
         }
         mark(row, marks, start);
-        start += 1;
     }
-    Answer::Accepted
+    Ok(())
 }
 
 // Check 9: the lowest node whose way up never comes to the root (RULES 7.5).
 // For adding, renumbering and comparing, which have room for a table: linear. Judging uses the form of `judge`.
-pub(crate) fn climbing(row: &[u16]) -> Answer
+pub(crate) fn climbing(row: &[u16]) -> Result<(), Refusal>
     requires { LaidOut row.now }
     ensures { (n : ℕ) → verdict result ≡ asked (check9 n row.now) }
 {
-    let mut marks: Table = [UNKNOWN; TABLE];
+    let mut marks: Marks = [false; TABLE];
     climbing_marked(row, &mut marks)
 }

@@ -11,21 +11,15 @@ pub mod tally;
 
 use branching::branching;
 use climbing::climbing;
-use judge::Answer;
+use judge::Refusal;
 
 // Checks 5 to 10, of a row of the right length for n: the first that applies is the answer (RULES 7.2).
 // For adding, renumbering and comparing, which have room for tables: linear. Judging has a form of its own, with none.
-pub fn check_row(n: usize, row: &[u16]) -> Answer
+pub fn check_row(n: usize, row: &[u16]) -> Result<(), Refusal>
     requires { (fewest_samples ≤ n) × (n ≤ most_samples) × (length row.now ≡ row_words n) }
     ensures { verdict result ≡ row_checks n row.now ⊳ accepted }
 {
-    let a = judge::check_words(n, row);
-    let Answer::Accepted = a else {
-        return a;
-    };
-    let a = climbing(row);
-    let Answer::Accepted = a else {
-        return a;
-    };
+    judge::check_words(n, row)?;
+    climbing(row)?;
     branching(n, row)
 }

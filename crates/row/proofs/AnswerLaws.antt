@@ -1,6 +1,6 @@
 -- How the answers of the checks make the answer of renumbering. Assumes nothing.
 use Prim.Native.Nat.{ℕ}
-use mathlib.Core.Path.{◌≡◌, sym, ap, ◌∙◌}
+use mathlib.Core.Path.{◌≡◌, sym}
 use mathlib.Core.List.{List}
 use lib.ListN.{length}
 use Rattle.trees.specs.Checks.{accepted, ◌⊳◌, asked, row_words}
@@ -10,13 +10,10 @@ use Rattle.trees.specs.RowCalls.{check3_both, renumber_checks, renumbering}
 use Rattle.trees.proofs.ChainLaws.{asked_passes}
 use Rattle.trees.proofs.RowCallLaws.{both_lengths, renumbering_accepts}
 use Rattle.trees.proofs.OutcomeLaws.{outcome_accepted}
-use Rattle.judge.specs.declared.Answer.{Answer}
-use Rattle.judge.specs.declared.Answer.TheVariants.{Accepted}
-use Rattle.judge.specs.Verdicts.{verdict}
 
 module _ (n : ℕ) (r q : List ℕ) where
-  pub passed3_first : (a : Answer) → verdict a ≡ asked (check3_both n r q) → a ≡ Accepted → length r ≡ row_words n
-  passed3_first a e k = (both_lengths n r q (asked_passes (check3_both n r q) (sym e ∙ ap verdict k))).0
+  pub passed3_first : accepted ≡ asked (check3_both n r q) → length r ≡ row_words n
+  passed3_first e = (both_lengths n r q (asked_passes (check3_both n r q) (sym e))).0
 
   -- ---- the row is accepted
 

@@ -6,4 +6,4 @@ use Rattle.compare.proofs.common.Goals as goal
 pub returns : goal.returns
 returns c =
     rw c.nodes.ensures at c.mated.ensures
-    ∙ mates_held _ c.args.a.now c.args.b.now c.requires.0 c.requires.1 _ c.mates.ensures.0
+    ∙ mates_held _ c.args.a.now c.args.b.now c.requires.0 c.requires.1 _ c.mates-mate.ensures

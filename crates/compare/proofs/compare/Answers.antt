@@ -1,20 +1,20 @@
 -- `compare::compare` hands a refusal on, and counts else. Assumes nothing.
 use mathlib.Core.Path.{sym, ◌∙◌}
+use Rattle.std.proofs.lemmas.Result.{err_from_is_err_and}
 use Rattle.trees.specs.RowCalls.{comparing}
 use Rattle.judge.proofs.Laws.{refuses, accepts}
 use Rattle.compare.proofs.AnswerLaws.{both_valid}
 use Rattle.compare.proofs.compare.Goals as goal
 
-pub counts_valid-requires : goal.counts_valid-requires
-counts_valid-requires c =
-    both_valid _ c.args.first.now c.args.second.now _ c.rows_given.ensures c.in_default.is
-
-pub returns-in_default : goal.returns-in_default
+pub returns-in_err-rows_given : goal.returns-in_err-rows_given
 unfolding comparing
-returns-in_default c =
-    c.counts_valid.ensures ∙ sym (accepts _ _ c.rows_given.ensures _ c.in_default.is)
+returns-in_err-rows_given c =
+    let p = err_from_is_err_and c.from_residual.result c.from_residual.ensures.1 in
+    rw (p.1, p.2) (sym (refuses _ _ c.in_err-rows_given.field-0.0 c.in_err-rows_given.ensures))
+
+pub counts_valid-requires : goal.counts_valid-requires
+counts_valid-requires c = both_valid _ c.args.first.now c.args.second.now c.in_ok-rows_given.ensures
 
 pub returns : goal.returns
 unfolding comparing
-returns c =
-    sym (refuses _ _ c.rows_given.ensures _ _ _ c.in-Refused.is)
+returns c = c.counts_valid.ensures ∙ sym (accepts _ _ c.in_ok-rows_given.ensures)

@@ -9,7 +9,7 @@ pub loop-v-init : goal.loop-v-init
 loop-v-init c = scan_start refl
 
 pub returns-then-children-lt-FEWEST_CHILDREN : goal.returns-then-children-lt-FEWEST_CHILDREN
-returns-then-children-lt-FEWEST_CHILDREN c = scan_hit c.loop-v.invariant 10 (omega arith) (rw c.children.ensures at (lt-ltb _ _ c.if-children-lt-FEWEST_CHILDREN.true))
+returns-then-children-lt-FEWEST_CHILDREN c = rw c.new.ensures (scan_hit c.loop-v.invariant 10 (omega arith) (rw c.children.ensures at (lt-ltb _ _ c.if-children-lt-FEWEST_CHILDREN.true)))
 
 pub loop-v-preserved : goal.loop-v-preserved
 loop-v-preserved c = scan_pass c.loop-v.invariant (omega arith) (rw c.children.ensures at (le-ltb _ _ c.if-children-lt-FEWEST_CHILDREN.false))

@@ -1,5 +1,4 @@
 -- `judge::branching` answers check 10: the inner nodes passed have a child, so those that are left decide. Assumes nothing.
-use Prim.Native.Nat.{◌-◌}
 use lib.Dec.{ltb}
 use Rattle.trees.specs.Rows.{nodes}
 use Rattle.trees.specs.Checks.{children, fewest_children}
@@ -8,6 +7,3 @@ use Rattle.judge.proofs.branching.Given as goal
 
 abbrev pub invariant-loop-v : goal.invariant-loop-v
 invariant-loop-v l = ScanLeft (λ u. ltb (children l.row u) fewest_children) l.n (nodes l.row) l.v
-
-abbrev pub decreases-loop-v : goal.decreases-loop-v
-decreases-loop-v l = l.m - l.v

@@ -3,22 +3,21 @@ use mathlib.Core.Path.{◌∙◌}
 use Rattle.judge.proofs.Laws.{words_stop, words_nodes, words_closed, climbing_stop, branching_last}
 use Rattle.judge.proofs.check_row.Goals as goal
 
-pub returns-in_default : goal.returns-in_default
-returns-in_default c = words_stop _ _ _ c.check_words-a.ensures _ _ c.in_default.is
+pub returns-in_err-check_words : goal.returns-in_err-check_words
+returns-in_err-check_words c = words_stop _ _ _ c.in_err-check_words.field-0.0 c.from_residual.ensures.1 c.in_err-check_words.ensures
 
-pub climbing-a-requires : goal.climbing-a-requires
-climbing-a-requires c = search (words_nodes, words_closed)
+pub climbing-requires : goal.climbing-requires
+climbing-requires c =
+    let e = c.in_ok-check_words.ensures in
+    (words_nodes _ _ e c.requires.0 c.requires.2, words_closed _ _ e)
 
-pub returns-in_default-a : goal.returns-in_default-a
-returns-in_default-a c =
-    climbing_stop _ _ _ c.check_words-a.ensures c.in-Accepted.is
-    _ (c.climbing-a.ensures 0) _ _ c.in_default-a.is
+pub returns-in_err-climbing : goal.returns-in_err-climbing
+returns-in_err-climbing c =
+    climbing_stop c.args.n _ c.in_ok-check_words.ensures _ c.in_err-climbing.field-0.0 c.from_residual-in_err-climbing.ensures.1
+    (c.in_err-climbing.ensures c.args.n)
 
 pub branching-requires : goal.branching-requires
-branching-requires c = search words_nodes
+branching-requires c = words_nodes _ _ c.in_ok-check_words.ensures c.requires.0 c.requires.2
 
 pub returns : goal.returns
-returns c =
-    c.branching.ensures
-    ∙ branching_last _ _ _ c.check_words-a.ensures c.in-Accepted.is
-    _ (c.climbing-a.ensures 0) c.in-Accepted-a.is
+returns c = c.branching.ensures ∙ branching_last c.args.n _ c.in_ok-check_words.ensures (c.in_ok-climbing.ensures c.args.n)

@@ -9,7 +9,7 @@ pub loop-start-init : goal.loop-start-init
 loop-start-init c = scan_start refl
 
 pub returns-then-not-ends : goal.returns-then-not-ends
-returns-then-not-ends c n = scan_hit c.loop-start.invariant 9 (omega arith) (rw (← c.ends.ensures) (ap not c.if-not-ends.true))
+returns-then-not-ends c n = rw c.new.ensures (scan_hit c.loop-start.invariant 9 (omega arith) (rw (← c.ends.ensures) (ap not c.if-not-ends.true)))
 
 pub loop-start-preserved : goal.loop-start-preserved
 loop-start-preserved c = scan_pass c.loop-start.invariant (omega arith) (rw (← c.ends.ensures) (ap not c.if-not-ends.false))

@@ -8,7 +8,7 @@ pub loop-w-init : goal.loop-w-init
 loop-w-init c = scan_start (omega arith)
 
 pub returns-then-row-w-ne0 : goal.returns-then-row-w-ne0
-returns-then-row-w-ne0 c = scan_hit c.loop-w.invariant 8 (omega arith) (rw (ne_eqb _ _ c.if-row-w-ne0.true))
+returns-then-row-w-ne0 c = rw c.new.ensures (scan_hit c.loop-w.invariant 8 (omega arith) (rw (ne_eqb _ _ c.if-row-w-ne0.true)))
 
 pub loop-w-preserved : goal.loop-w-preserved
 loop-w-preserved c = scan_pass c.loop-w.invariant (omega arith) (rw (eq-eqb _ _ c.if-row-w-ne0.false))

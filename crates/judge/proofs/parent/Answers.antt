@@ -5,4 +5,4 @@ use Rattle.judge.proofs.parent.Goals as goal
 
 pub returns : goal.returns
 unfolding parent
-returns c = rw (← add-one) c.wide.ensures.0
+returns c = rw (← add-one) c.from.ensures

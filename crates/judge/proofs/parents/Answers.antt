@@ -8,9 +8,8 @@ pub loop-v-init : goal.loop-v-init
 loop-v-init c = scan_start refl
 
 pub returns-then-stray : goal.returns-then-stray
-returns-then-stray c =
-    scan_hit c.loop-v.invariant 6 (omega arith)
-    (rw (← c.nodes-m.ensures, ← c.parent-p.ensures) (sym c.stray.ensures ∙ c.if-stray.true))
+returns-then-stray c = rw c.new.ensures (scan_hit c.loop-v.invariant 6 (omega arith)
+    (rw (← c.nodes-m.ensures, ← c.parent-p.ensures) (sym c.stray.ensures ∙ c.if-stray.true)))
 
 pub loop-v-preserved : goal.loop-v-preserved
 loop-v-preserved c =

@@ -16,7 +16,7 @@ rank-requires c =
 pub returns-then-k-rank : goal.returns-then-k-rank
 returns-then-k-rank c =
     let a = c.args in
-    sym (c.loop-x.invariant.1 ∙ candidate_hit (rank_in a.n a.size.now a.low.now) c.loop-x.x a.m a.k (omega arith)
+    sym (c.loop-x.invariant.1 ∙ candidate_hit (rank_in a.n a.ranks.now.size a.ranks.now.low) c.loop-x.x a.m a.k (omega arith)
     (omega (arith, c.rank.ensures)))
 
 pub overflow_add-x : goal.overflow_add-x
@@ -29,11 +29,11 @@ pub loop-x-preserved : goal.loop-x-preserved
 loop-x-preserved c =
     let a = c.args in (
       omega arith,
-      rw add-one (c.loop-x.invariant.1 ∙ candidate_pass (rank_in a.n a.size.now a.low.now) c.loop-x.x a.m a.k (omega arith)
+      rw add-one (c.loop-x.invariant.1 ∙ candidate_pass (rank_in a.n a.ranks.now.size a.ranks.now.low) c.loop-x.x a.m a.k (omega arith)
           (omega (arith, c.rank.ensures))),
     )
 
 pub returns : goal.returns
 returns c =
     let a = c.args in
-    sym (c.loop-x.invariant.1 ∙ candidate_end (rank_in a.n a.size.now a.low.now) c.loop-x.x a.m a.k (omega arith))
+    sym (c.loop-x.invariant.1 ∙ candidate_end (rank_in a.n a.ranks.now.size a.ranks.now.low) c.loop-x.x a.m a.k (omega arith))

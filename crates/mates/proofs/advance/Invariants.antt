@@ -6,7 +6,7 @@ use Prim.Native.Nat.{◌≤◌, ◌-◌}
 use Rattle.mates.proofs.advance.Given as goal
 
 abbrev pub invariant-loop-x : goal.invariant-loop-x
-invariant-loop-x l = (l.x ≤ l.m) × (candidate (rank_in l.n l.size l.low) l.b l.m l.k ≡ candidate (rank_in l.n l.size l.low) l.x l.m l.k)
+invariant-loop-x l = (l.x ≤ l.m) × (candidate (rank_in l.n l.ranks.size l.ranks.low) l.b l.m l.k ≡ candidate (rank_in l.n l.ranks.size l.ranks.low) l.x l.m l.k)
 
 abbrev pub decreases-loop-x : goal.decreases-loop-x
 decreases-loop-x l = l.m - l.x

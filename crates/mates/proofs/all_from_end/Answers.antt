@@ -4,7 +4,7 @@ use Rattle.passes.proofs.Filling.{filling_start, filling_more, filling_end}
 use Rattle.mates.proofs.all_from_end.Goals as goal
 
 pub loop-s-init : goal.loop-s-init
-loop-s-init c = filling_start (omega arith) c.requires.2
+loop-s-init c = filling_start (omega arith) c.told-t
 
 pub offset_bounds-start-s : goal.offset_bounds-start-s
 offset_bounds-start-s c = omega arith

@@ -23,7 +23,7 @@ loop-a-init c = (
   c.nodes-m.ensures,
   c.nodes-others.ensures,
   walking_start c.args.n c.args.reference.now c.args.row.now c.requires.0 c.requires.2 _
-      c.requires.4,
+      c.told-mate,
 )
 
 pub rank-k-requires : goal.rank-k-requires
@@ -85,4 +85,4 @@ loop-a-preserved c = (
 pub returns : goal.returns
 returns c =
     let e : c.loop-a.a ≡ nodes c.args.reference.now = omega (arith, c.loop-a.invariant.2.high) in
-    (rw e at c.loop-a.invariant.2.done, c.loop-a.invariant.2.long)
+    rw e at c.loop-a.invariant.2.done

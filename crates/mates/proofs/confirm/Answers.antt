@@ -24,12 +24,12 @@ bounds-last-x c = omega arith
 
 pub returns-then-fitting : goal.returns-then-fitting
 returns-then-fitting c =
-    rw (lt-ltb c.args.b c.args.m (omega (arith, c.wide-x.ensures.0)), sym (rw c.wide-x.ensures.0 at c.fitting.ensures) ∙ c.if-fitting.true)
+    rw (lt-ltb c.args.b c.args.m (omega (arith, c.from-x.ensures)), sym (rw c.from-x.ensures at c.fitting.ensures) ∙ c.if-fitting.true)
 
 pub returns-else-fitting : goal.returns-else-fitting
 returns-else-fitting c =
-    rw (lt-ltb c.args.b c.args.m (omega (arith, c.wide-x.ensures.0)), sym (rw c.wide-x.ensures.0 at c.fitting.ensures) ∙ c.if-fitting.false)
+    rw (lt-ltb c.args.b c.args.m (omega (arith, c.from-x.ensures)), sym (rw c.from-x.ensures at c.fitting.ensures) ∙ c.if-fitting.false)
 
 pub returns-else-x-m : goal.returns-else-x-m
 returns-else-x-m c =
-    rw (le-ltb c.args.b c.args.m (omega (arith, c.wide-x.ensures.0)))
+    rw (le-ltb c.args.b c.args.m (omega (arith, c.from-x.ensures)))

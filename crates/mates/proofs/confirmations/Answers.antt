@@ -20,7 +20,7 @@ loop-a-init c = (
     low = omega arith;
     high = omega
         (arith, c.requires.0.valid.low);
-    long = c.requires.4;
+    long = c.told-mate;
     done = tabled_none _ _ _;
     rest = c.requires.3;
   },
@@ -69,4 +69,4 @@ loop-a-preserved c =
 pub returns : goal.returns
 returns c =
     let e : c.loop-a.a ≡ nodes c.args.reference.now = omega (arith, c.loop-a.invariant.2.high) in
-    (rw e at c.loop-a.invariant.2.done, c.loop-a.invariant.2.long)
+    rw e at c.loop-a.invariant.2.done

@@ -10,4 +10,4 @@ overflow_add-result-2 c = omega arith
 
 pub returns : goal.returns
 returns c =
-    rw (c.wide.ensures.0, c.wide-2.ensures.0, c.wide-3.ensures.0)
+    rw (c.from.ensures, c.from-2.ensures, c.from-3.ensures)

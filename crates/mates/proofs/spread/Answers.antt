@@ -6,7 +6,7 @@ use Rattle.mates.proofs.spread.Goals as goal
 
 pub least-requires-2 : goal.least-requires-2
 least-requires-2 c =
-    (c.requires.0, end_keys c.args.n c.args.start.now _ c.requires.1 c.all_from_end.ensures, c.requires.3)
+    (c.requires.0, end_keys c.args.n c.args.start.now _ c.requires.1 c.all_from_end.ensures)
 
 pub returns : goal.returns
 returns c = (

@@ -7,8 +7,8 @@ use Rattle.passes.proofs.pass.add_up.Goals as goal
 pub loop-done-init : goal.loop-done-init
 loop-done-init c =
     record {
-      sums = record { low = omega (arith, c.requires.0.low); long = c.requires.2; stage = c.requires.4 };
-      wide = c.requires.3;
+      sums = record { low = omega (arith, c.requires.0.low); long = c.told-size; stage = c.requires.2 };
+      wide = c.told-off;
       offs = record
           { at = λ i a. absurd (omega arith) };
     }
@@ -22,8 +22,6 @@ hand-requires c =
     let b = adding_room c.args.n c.args.row.now c.requires.0 c.loop-done.done c.loop-done.size c.loop-done.off _ _ (omega arith) x c.loop-done.invariant in (
       omega (arith, x.low, few _ _ c.requires.0),
       omega (arith, x.top, few _ _ c.requires.0),
-      c.loop-done.invariant.sums.long,
-      c.loop-done.invariant.wide,
       omega
           (arith, b.1, c.requires.0.most),
     )

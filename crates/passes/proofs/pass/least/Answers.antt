@@ -11,8 +11,8 @@ use Rattle.passes.proofs.pass.least.Goals as goal
 pub loop-i-init : goal.loop-i-init
 loop-i-init c = (
   c.nodes-m.ensures,
-  lowering_start c.args.n c.args.row.now c.requires.0 c.args.key.now _ c.requires.1 c.seed.ensures.1
-      (rw c.nodes-m.ensures at c.seed.ensures.0),
+  lowering_start c.args.n c.args.row.now c.requires.0 c.args.key.now _ c.requires.1 (omega arith)
+      (rw c.nodes-m.ensures at c.seed.ensures),
 )
 
 pub overflow_add-i : goal.overflow_add-i
@@ -21,7 +21,7 @@ overflow_add-i c = omega arith
 pub lower-requires : goal.lower-requires
 lower-requires c =
     let x = c.step-t.ensures in
-    (omega (arith, x.low, few _ _ c.requires.0), omega (arith, x.top, few _ _ c.requires.0), c.loop-i.invariant.1.long)
+    (omega (arith, x.low, few _ _ c.requires.0), omega (arith, x.top, few _ _ c.requires.0))
 
 pub overflow_add-i-in-loop-i : goal.overflow_add-i-in-loop-i
 overflow_add-i-in-loop-i c = omega arith

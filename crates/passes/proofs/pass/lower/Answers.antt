@@ -19,6 +19,3 @@ offset_bounds-t-p-2 c = omega arith
 
 pub bounds-t-p-2 : goal.bounds-t-p-2
 bounds-t-p-2 c = omega arith
-
-pub returns : goal.returns
-returns c = rw c.lesser.ensures

@@ -5,7 +5,7 @@ use Rattle.passes.proofs.Filling.{filling_start, filling_more, filling_end}
 use Rattle.passes.proofs.pass.numbers.Goals as goal
 
 pub loop-s-init : goal.loop-s-init
-loop-s-init c = filling_start (omega arith) c.requires.1
+loop-s-init c = filling_start (omega arith) c.told-t
 
 pub overflow_cast-t : goal.overflow_cast-t
 overflow_cast-t c = omega arith

@@ -4,7 +4,7 @@ use Rattle.passes.proofs.Filling.{filling_start, filling_more, filling_end}
 use Rattle.passes.proofs.pass.seed.Goals as goal
 
 pub loop-v-init : goal.loop-v-init
-loop-v-init c = filling_start (omega arith) c.requires.2
+loop-v-init c = filling_start (omega arith) c.told-t
 
 pub offset_bounds-t-v : goal.offset_bounds-t-v
 offset_bounds-t-v c = omega arith
@@ -24,4 +24,4 @@ loop-v-preserved c =
 
 pub returns : goal.returns
 returns c =
-    (filling_end c.loop-v.invariant (omega arith), c.loop-v.invariant.long)
+    filling_end c.loop-v.invariant (omega arith)

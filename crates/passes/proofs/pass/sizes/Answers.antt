@@ -10,11 +10,9 @@ use Rattle.passes.proofs.pass.sizes.Goals as goal
 
 pub add_up-requires : goal.add_up-requires
 add_up-requires c = (
-  c.requires.0,
+  c.requires,
   c.nodes-m.ensures,
-  c.seed.ensures.1,
-  c.requires.2,
-  stage_start c.args.n c.args.row.now c.requires.0 ◌+◌ 0 one _ (λ s h. refl)
-      (seed_same c.args.n (entry (replicate 1024 1)) one 0 _ _ (λ s h. get_or-replicate 1024 s 1 0 (omega (arith, c.requires.0.most)))
-      (rw c.nodes-m.ensures at c.seed.ensures.0)),
+  stage_start c.args.n c.args.row.now c.requires ◌+◌ 0 one _ (λ s h. refl)
+      (seed_same c.args.n (entry (replicate 1024 1)) one 0 _ _ (λ s h. get_or-replicate 1024 s 1 0 (omega (arith, c.requires.most)))
+      (rw c.nodes-m.ensures at c.seed.ensures)),
 )

@@ -21,7 +21,7 @@ pub loop-i-init : goal.loop-i-init
 loop-i-init c = (
   c.nodes-m.ensures,
   laying_start c.args.n c.args.row.now c.requires.0 c.args.start.now _ (ap (λ (m : ℕ). m - 1) c.nodes-m.ensures)
-      c.requires.2,
+      c.told-start,
 )
 
 pub overflow_sub-i-in-loop-i : goal.overflow_sub-i-in-loop-i
@@ -39,7 +39,7 @@ place-requires c =
     (rw x.is (c.requires.1.at (c.loop-i.i - 1) (omega (arith, c.loop-i.invariant.1.low)))) in
     let k = laying_room c.args.n c.args.row.now c.requires.0 (c.loop-i.i - 1) c.loop-i.start _ _ _ (omega (arith, c.loop-i.invariant.1.low)) x o
     (rw i at c.loop-i.invariant.1) in
-    (omega (arith, x.low, few _ _ c.requires.0), omega (arith, x.top, few _ _ c.requires.0), c.loop-i.invariant.1.long, omega (arith, c.requires.0.most))
+    (omega (arith, x.low, few _ _ c.requires.0), omega (arith, x.top, few _ _ c.requires.0), omega (arith, c.requires.0.most))
 
 pub loop-i-smaller : goal.loop-i-smaller
 loop-i-smaller c = omega arith

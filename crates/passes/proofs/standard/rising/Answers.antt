@@ -25,7 +25,7 @@ rank-requires-in-loop-v c =
 
 pub returns-then-rank : goal.returns-then-rank
 returns-then-rank c =
-    let k : ℕ → ℕ = rank_in c.args.n c.args.size.now c.args.low.now in
+    let k : ℕ → ℕ = rank_in c.args.n c.args.ranks.now.size c.args.ranks.now.low in
     sym (c.loop-v.invariant.1 ∙ never_hit (falters k) c.loop-v.v _ (omega arith)
     (rw (← add-one c.loop-v.v) (le-leb (k (c.loop-v.v + 1)) (k c.loop-v.v) (omega (arith, c.rank.ensures, c.rank-in-loop-v.ensures)))))
 
@@ -37,7 +37,7 @@ loop-v-smaller c = omega arith
 
 pub loop-v-preserved : goal.loop-v-preserved
 loop-v-preserved c =
-    let k : ℕ → ℕ = rank_in c.args.n c.args.size.now c.args.low.now in (
+    let k : ℕ → ℕ = rank_in c.args.n c.args.ranks.now.size c.args.ranks.now.low in (
       omega arith,
       c.loop-v.invariant.1 ∙ never_pass (falters k) c.loop-v.v _ (omega arith)
           (rw (← add-one c.loop-v.v) (lt-leb (k (c.loop-v.v + 1)) (k c.loop-v.v) (omega (arith, c.rank.ensures, c.rank-in-loop-v.ensures)))),
@@ -45,4 +45,4 @@ loop-v-preserved c =
 
 pub returns : goal.returns
 returns c =
-    sym (c.loop-v.invariant.1 ∙ never_end (falters (rank_in c.args.n c.args.size.now c.args.low.now)) c.loop-v.v _ (omega arith))
+    sym (c.loop-v.invariant.1 ∙ never_end (falters (rank_in c.args.n c.args.ranks.now.size c.args.ranks.now.low)) c.loop-v.v _ (omega arith))

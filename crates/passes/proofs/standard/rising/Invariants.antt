@@ -7,7 +7,7 @@ use mathlib.Core.Path.{◌≡◌}
 use Rattle.passes.proofs.standard.rising.Given as goal
 
 abbrev pub invariant-loop-v : goal.invariant-loop-v
-invariant-loop-v l = (l.n ≤ l.v) × (rising (rank_in l.n l.size l.low) l.n l.last ≡ never (falters (rank_in l.n l.size l.low)) l.v l.last)
+invariant-loop-v l = (l.n ≤ l.v) × (rising (rank_in l.n l.ranks.size l.ranks.low) l.n l.last ≡ never (falters (rank_in l.n l.ranks.size l.ranks.low)) l.v l.last)
 
 abbrev pub decreases-loop-v : goal.decreases-loop-v
 decreases-loop-v l = l.last - l.v

@@ -9,17 +9,17 @@ use Rattle.quick.proofs.branching.branching_counted.Goals as goal
 pub loop-v-init : goal.loop-v-init
 loop-v-init c = scan_start refl
 
-pub returns-then-wide-lt-FEWEST_CHILDREN : goal.returns-then-wide-lt-FEWEST_CHILDREN
-returns-then-wide-lt-FEWEST_CHILDREN c =
+pub returns-then-from-lt-FEWEST_CHILDREN : goal.returns-then-from-lt-FEWEST_CHILDREN
+returns-then-from-lt-FEWEST_CHILDREN c =
     let l = c.loop-v in
     let d = c.requires.1 in
-    scan_hit l.invariant 10 (omega arith) (rw (c.wide.ensures.0 ∙ d.is l.v zero-le (omega arith)) at (lt-ltb _ _ c.if-wide-lt-FEWEST_CHILDREN.true))
+    rw c.new.ensures (scan_hit l.invariant 10 (omega arith) (rw (c.from.ensures ∙ d.is l.v zero-le (omega arith)) at (lt-ltb _ _ c.if-from-lt-FEWEST_CHILDREN.true)))
 
 pub loop-v-preserved : goal.loop-v-preserved
 loop-v-preserved c =
     let l = c.loop-v in
     let d = c.requires.1 in
-    scan_pass l.invariant (omega arith) (rw (c.wide.ensures.0 ∙ d.is l.v zero-le (omega arith)) at (le-ltb _ _ c.if-wide-lt-FEWEST_CHILDREN.false))
+    scan_pass l.invariant (omega arith) (rw (c.from.ensures ∙ d.is l.v zero-le (omega arith)) at (le-ltb _ _ c.if-from-lt-FEWEST_CHILDREN.false))
 
 pub returns : goal.returns
 returns c = scan_end c.loop-v.invariant 10 (omega arith)

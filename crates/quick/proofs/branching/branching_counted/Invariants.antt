@@ -1,5 +1,4 @@
 -- `quick::branching::branching_counted` answers check 10: the inner nodes passed have a child, so those that are left decide. Assumes nothing.
-use Prim.Native.Nat.{◌-◌}
 use Rattle.trees.specs.Rows.{nodes}
 use lib.Dec.{ltb}
 use Rattle.trees.specs.Checks.{children, fewest_children}
@@ -8,6 +7,3 @@ use Rattle.quick.proofs.branching.branching_counted.Given as goal
 
 abbrev pub invariant-loop-v : goal.invariant-loop-v
 invariant-loop-v l = ScanLeft (λ u. ltb (children l.row u) fewest_children) l.n (nodes l.row) l.v
-
-abbrev pub decreases-loop-v : goal.decreases-loop-v
-decreases-loop-v l = l.m - l.v

@@ -9,4 +9,4 @@ tally-requires c =
     (omega (arith, pre.0.words), omega (arith, pre.0.fits), pre.1)
 
 pub returns : goal.returns
-returns c = tabled_children _ _ _ c.nodes.ensures c.tally.ensures.counted
+returns c = tabled_children _ _ _ c.nodes.ensures c.tally.ensures

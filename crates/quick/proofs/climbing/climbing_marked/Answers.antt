@@ -11,7 +11,8 @@ pub loop-start-init : goal.loop-start-init
 loop-start-init c = record { marked = search rules; rest = scan_start refl }
 
 pub returns-then-not-reaches : goal.returns-then-not-reaches
-returns-then-not-reaches c n = scan_hit c.loop-start.invariant.rest 9 (omega arith) (rw (← c.reaches.ensures) (ap not c.if-not-reaches.true))
+returns-then-not-reaches c n =
+    rw c.new.ensures (scan_hit c.loop-start.invariant.rest 9 (omega arith) (rw (← c.reaches.ensures) (ap not c.if-not-reaches.true)))
 
 pub mark-requires : goal.mark-requires
 mark-requires c =

@@ -1,28 +1,35 @@
 -- `quick::climbing::reaches` follows the parents: the way that is left ends exactly if the whole way does, in the steps left and at all. Assumes nothing.
-use mathlib.Core.Path.{refl}
+use Prim.Native.Nat.{◌-◌, ◌+◌, ◌<◌}
+use mathlib.Core.Path.{◌≡◌, refl}
 use native.Mathlib.Omega.{arith}
 use borrow.Author.Tests.{eq-eqb, ne_eqb}
 use borrow.Author.Rules.{rules}
+use Rattle.trees.specs.Rows.{nodes}
 use Rattle.quick.proofs.MarkingLaws.{climbed_up, climbed_root, climbed_known, climbed_out}
 use Rattle.quick.proofs.climbing.reaches.Goals as goal
 
-pub loop-left-init : goal.loop-left-init
-loop-left-init c = record { node = search rules; within = rw c.nodes-left.ensures; ever = refl }
+pub loop-passed-init : goal.loop-passed-init
+loop-passed-init c =
+    let all : c.nodes-m.result - 0 ≡ nodes c.args.row.now = omega (arith, c.nodes-m.ensures) in
+    record { node = search rules; within = rw all; ever = refl }
 
-pub returns-then-marks-at-ne-UNKNOWN : goal.returns-then-marks-at-ne-UNKNOWN
-returns-then-marks-at-ne-UNKNOWN c =
-    let l = c.loop-left in
-    climbed_known _ _ _ _ l.invariant _ c.requires.1 c.if-marks-at-ne-UNKNOWN.true
+pub returns-then-marks-at : goal.returns-then-marks-at
+returns-then-marks-at c = climbed_known _ _ _ _ c.loop-passed.invariant _ c.requires.1 c.if-marks-at.true
 
 pub returns-then-p-eq-ROOT_MARK : goal.returns-then-p-eq-ROOT_MARK
 returns-then-p-eq-ROOT_MARK c =
-    climbed_root _ _ _ _ c.loop-left.invariant c.loop-left-test.true (rw c.parent-p.ensures at (eq-eqb _ _ c.if-p-eq-ROOT_MARK.true))
+    let some : 0 < c.nodes-m.result - c.loop-passed.passed = omega arith in
+    climbed_root _ _ _ _ c.loop-passed.invariant some (rw c.parent-p.ensures at (eq-eqb _ _ c.if-p-eq-ROOT_MARK.true))
 
-pub loop-left-preserved : goal.loop-left-preserved
-loop-left-preserved c =
+pub loop-passed-preserved : goal.loop-passed-preserved
+loop-passed-preserved c =
     let p = c.parent-p.ensures in
-    let laid = c.requires.0 in
-    rw p (climbed_up _ _ _ _ c.loop-left.invariant laid c.loop-left-test.true (rw p at (ne_eqb _ _ c.if-p-eq-ROOT_MARK.false)))
+    let l = c.loop-passed in
+    let some : 0 < c.nodes-m.result - l.passed = omega arith in
+    let less : c.nodes-m.result - (l.passed + 1) ≡ c.nodes-m.result - l.passed - 1 = omega arith in
+    rw (p, less) (climbed_up _ _ _ _ l.invariant c.requires.0 some (rw p at (ne_eqb _ _ c.if-p-eq-ROOT_MARK.false)))
 
 pub returns : goal.returns
-returns c = climbed_out _ _ _ _ c.loop-left.invariant (omega arith)
+returns c =
+    let none : c.nodes-m.result - c.loop-passed.passed ≡ 0 = omega arith in
+    climbed_out _ _ _ _ c.loop-passed.invariant none

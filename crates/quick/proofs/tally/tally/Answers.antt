@@ -11,15 +11,15 @@ loop-u-init c = rw c.requires.2 (tally_start _ _ _)
 pub raise-requires : goal.raise-requires
 raise-requires c =
     let l = c.loop-u in
-    (c.if-k-lt-TABLE.true, l.invariant.words, omega (arith, tally_room _ _ _ _ _ l.invariant c.wide-k.result c.if-k-lt-TABLE.true))
+    (c.if-k-lt-TABLE.true, omega (arith, tally_room _ _ _ _ _ l.invariant c.from-k.result c.if-k-lt-TABLE.true))
 
 pub loop-u-preserved : goal.loop-u-preserved
 loop-u-preserved c =
     let l = c.loop-u in
     elim c.if-k-lt-TABLE.branch [
-      | then-k-lt-TABLE w ↦ rw (w.counts-is ∙ w.raise.ensures) (tally_more _ _ _ _ _ l.invariant _ (omega arith) c.wide-k.ensures.0 w.if-k-lt-TABLE.true)
-      | else-k-lt-TABLE w ↦ rw w.counts-is (tally_past _ _ _ _ _ l.invariant _ (omega arith) c.wide-k.ensures.0 w.if-k-lt-TABLE.false)
+      | then-k-lt-TABLE w ↦ rw (w.counts-is ∙ w.raise.ensures) (tally_more _ _ _ _ _ l.invariant _ (omega arith) c.from-k.ensures w.if-k-lt-TABLE.true)
+      | else-k-lt-TABLE w ↦ rw w.counts-is (tally_past _ _ _ _ _ l.invariant _ (omega arith) c.from-k.ensures w.if-k-lt-TABLE.false)
     ]
 
 pub returns : goal.returns
-returns c = let l = c.loop-u in record { counted = tally_end _ _ _ _ _ l.invariant (omega arith); whole = l.invariant.words }
+returns c = tally_end _ _ _ _ _ c.loop-u.invariant (omega arith)

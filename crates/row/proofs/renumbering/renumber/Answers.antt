@@ -1,29 +1,25 @@
 -- `row::renumbering::renumber` passes a refusal on with `out` as it was, and after an acceptance writes the renumbered row. Assumes nothing.
-use mathlib.Core.Path.{◌≡◌, sym, ap, ◌∙◌}
-use Rattle.trees.specs.Checks.{accepted, ◌⊳◌}
-use Rattle.trees.specs.RowCalls.{renumber_checks, renumbering}
+use mathlib.Core.Path.{sym, ◌∙◌}
+use Rattle.trees.specs.RowCalls.{renumbering}
 use Rattle.trees.proofs.RowCallLaws.{renumbering_refused}
-use Rattle.judge.specs.Verdicts.{verdict}
+use Rattle.judge.proofs.Laws.{handed_on}
 use Rattle.row.proofs.AnswerLaws.{both_given, written}
-use Rattle.row.proofs.renumbering.renumber.Goals.{In-Accepted}
 use Rattle.row.proofs.renumbering.renumber.Goals as goal
 
-passed : (c : In-Accepted) → renumber_checks c.args.n c.args.row.now c.args.out.now ⊳ accepted ≡ accepted
-passed c = sym c.check_first-a.ensures ∙ ap verdict c.in-Accepted.is
-
-pub returns-in_default : goal.returns-in_default
+pub returns-in_err-check_first : goal.returns-in_err-check_first
 unfolding renumbering
-returns-in_default c =
-    let e = c.check_first-a.ensures in
-    record { result_value = e; out_after = sym (renumbering_refused _ c.args.row.now c.args.out.now _ _ (sym e ∙ ap verdict c.in_default.is)) }
+returns-in_err-check_first c =
+    let e = c.in_err-check_first.ensures in
+    record {
+      result_value = handed_on _ c.in_err-check_first.field-0.0 c.from_residual.ensures.1 ∙ e;
+      out_after = sym (renumbering_refused _ c.args.row.now c.args.out.now _ _ (sym e));
+    }
 
 pub renumber_valid-requires : goal.renumber_valid-requires
-renumber_valid-requires c =
-    let ok = passed (goal.at.renumber_valid-requires c).In-Accepted in
-    both_given _ c.args.row.now c.args.out.now ok
+renumber_valid-requires c = both_given _ c.args.row.now c.args.out.now (sym c.in_ok-check_first.ensures)
 
 pub returns : goal.returns
 unfolding renumbering
 returns c =
-    let ok = passed (goal.at.returns c).In-Accepted in
+    let ok = sym c.in_ok-check_first.ensures in
     record { result_value = sym ok; out_after = c.renumber_valid.ensures ∙ sym (written _ _ _ ok) }

@@ -1,11 +1,10 @@
--- `passes::pass::ranks` meets its contract. Assumes nothing.
+-- `passes::pass::Ranks::with_offsets` meets its contract. Assumes nothing.
 use Rattle.trees.specs.Tables.{own}
 use Rattle.trees.proofs.TableLaws.{tabled_keys, tabled_least}
-use Rattle.passes.proofs.pass.ranks.Goals as goal
+use Rattle.passes.proofs.pass.Ranks.with_offsets.Goals as goal
 
 pub least-requires : goal.least-requires
-least-requires c =
-    (c.requires.0, tabled_keys c.args.n _ c.numbers.ensures, c.requires.3)
+least-requires c = (c.requires, tabled_keys c.args.n _ c.numbers.ensures)
 
 pub returns : goal.returns
 returns c = (
