@@ -1,16 +1,16 @@
 -- How an answer passes along the checks of a call, what is known from an acceptance, and the words that a call leaves. Assumes nothing.
 use Prim.Native.Nat.{ℕ, ◌≤◌}
-use mathlib.Core.Path.{◌≡◌, sym, ap, subst, ◌∙◌}
+use mathlib.Core.Path.{◌≡◌, sym, ap, ◌∙◌}
 use mathlib.Core.List.{List, [], ◌∷◌, ◌++◌}
 use mathlib.Core.Bool.{Bool, true, false, not}
 use native.Mathlib.Omega.{arith}
 use lib.ListN.{length}
 use borrow.Author.Tests.{not-false}
 use Rattle.trees.specs.Lists.{nowhere}
-use Rattle.trees.specs.Checks.{Verdict, accepted, refused, Check, line, ◌⊳◌, asked, fewest_samples, most_samples}
+use Rattle.trees.specs.Checks.{Verdict, accepted, Check, line, ◌⊳◌, asked, fewest_samples, most_samples}
 use Rattle.trees.specs.Checks.{check1, check3, row_checks, judge_checks, judged}
 use Rattle.trees.specs.Valid.{Valid}
-use Rattle.trees.proofs.ChainLaws.{chain_append, passed_chain, chain_passed, chain_given, given_chain, asked_passes, accepted_other, line_passes}
+use Rattle.trees.proofs.ChainLaws.{chain_append, passed_chain, chain_passed, asked_passes, line_passes}
 use Rattle.trees.proofs.CheckLaws.{not_outside}
 use Rattle.trees.proofs.ValidLaws.{judged_valid}
 use Rattle.runs.specs.Runs.{is_some, present, delete_run}
@@ -31,7 +31,6 @@ use Rattle.judge.specs.Verdicts.{Answer, verdict}
 use Rattle.judge.proofs.Laws.{handed_on, refuses, accepts, last}
 use Rattle.runs.specs.Moves.{StandsAt, GoesBefore}
 use Rattle.runs.proofs.MoveLaws.{stands_found, goes_absent}
-use Rattle.slots.specs.Slots.{Spotted}
 use Rattle.study.specs.Adding.{given_checks, added_valid}
 
 -- ---- an answer and the checks after it

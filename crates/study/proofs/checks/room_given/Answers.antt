@@ -1,7 +1,7 @@
 -- `study::checks::room_given` answers the checks of opening. Assumes nothing.
 use mathlib.Core.Path.{◌∙◌}
 use Rattle.runs.specs.Calls.{check3_open, open_checks}
-use Rattle.judge.proofs.Laws.{stopped, goes, last, passed1_most}
+use Rattle.judge.proofs.Laws.{stopped, goes, last}
 use Rattle.study.proofs.checks.room_given.Goals as goal
 
 pub returns-in_err-samples : goal.returns-in_err-samples

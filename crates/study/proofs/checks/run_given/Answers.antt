@@ -1,6 +1,6 @@
 -- `study::checks::run_given` answers checks 3, 4 and 5 to 10. Assumes nothing.
 use mathlib.Core.Path.{◌∙◌}
-use Rattle.judge.proofs.Laws.{stopped, goes, passed3}
+use Rattle.judge.proofs.Laws.{stopped, goes}
 use Rattle.study.proofs.checks.run_given.Goals as goal
 
 pub returns-in_err-words : goal.returns-in_err-words

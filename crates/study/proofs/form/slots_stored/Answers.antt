@@ -1,8 +1,6 @@
 -- `study::form::slots_stored` meets its contract: the slots that are left decide. Assumes nothing.
-use lib.ListN.{length}
-use Rattle.runs.proofs.SlotLaws.{slot_within}
 use Rattle.study.proofs.FormLaws.{stored_on, stored_off, stored_end}
-use mathlib.Core.Path.{refl, sym, ◌∙◌}
+use mathlib.Core.Path.{sym, ◌∙◌}
 use native.Mathlib.Omega.{arith}
 use Rattle.study.proofs.form.slots_stored.Goals as goal
 
