@@ -8,6 +8,7 @@ ghost use Rattle.trees.specs.Passes.{Stage, Offsets, Sized, Ranked, Starts};
 
 use crate::turns::step;
 use judge::nodes;
+use std::array;
 
 // A table has a word for each node of the largest row.
 pub const TABLE: usize = 1024;
@@ -19,29 +20,6 @@ const NO_KEY: u16 = 65535;
 
 // Between the ranks of two sizes: more than any sample.
 pub const RANK_STEP: usize = 1024;
-
-// What a pass starts with: the key of a sample, and e at an inner node.
-fn initial(n: usize, key: &Table, e: u16, v: usize) -> u16
-    requires { n ≤ most_samples }
-    ensures { result ≡ seeded n (entry key.now) e v }
-{
-    if v < n {
-        return key[v];
-    }
-    e
-}
-
-// The table that a pass starts with.
-fn seed(n: usize, m: usize, key: &Table, e: u16, t: &mut Table)
-    requires { (n ≤ most_samples) × (m ≤ table_words) }
-    ensures { Tabled (seeded n (entry key.now) e) 0 m t.new }
-{
-    let mut v = 0;
-    while v < m {
-        t[v] = initial(n, key, e, v);
-        v += 1;
-    }
-}
 
 // Node v hands its samples to its parent p, where they come after those that p has.
 fn hand(size: &mut Table, off: &mut Table, v: usize, p: usize)
@@ -58,45 +36,44 @@ fn add_up(n: usize, row: &[u16], m: usize, size: &mut Table, off: &mut Table)
     requires { Falls n row.now × (m ≡ nodes row.now) × Stage n row.now ◌+◌ 0 one 0 size.old }
     ensures { Sized n row.now size.new off.new }
 {
-    let mut done = 0;
-    while done + 1 < m {
+    for done in 0..m - 1 {
         let t = step(n, row, m, done);
         hand(size, off, t.node, t.up);
-        done += 1;
     }
 }
 
 // The size of each node's group, and where its samples start among those of its parent.
-fn sizes(n: usize, row: &[u16], size: &mut Table, off: &mut Table)
+fn sizes(n: usize, row: &[u16], off: &mut Table) -> Table
     requires { Falls n row.now }
-    ensures { Sized n row.now size.new off.new }
+    ensures { Sized n row.now result off.new }
 {
-    let m = nodes(row);
-    seed(n, m, &[1; TABLE], 0, size);
-    add_up(n, row, m, size, off);
+    let mut size: Table = [0; TABLE];
+    size[..n].fill(1);
+    add_up(n, row, nodes(row), &mut size, off);
+    size
 }
 
 // The key at p is lowered to that at v.
-fn lower(t: &mut Table, v: usize, p: usize)
+fn lower(least: &mut Table, v: usize, p: usize)
     requires { (v < table_words) × (p < table_words) }
-    ensures { t.new ≡ set t.old p (min (get_or t.old p 0) (get_or t.old v 0)) }
+    ensures { least.new ≡ set least.old p (min (get_or least.old p 0) (get_or least.old v 0)) }
 {
-    t[p] = t[p].min(t[v]);
+    least[p] = least[p].min(least[v]);
 }
 
 // The least key of the samples of each node's group.
-pub fn least(n: usize, row: &[u16], key: &Table, out: &mut Table)
+pub fn least(n: usize, row: &[u16], key: &Table) -> Table
     requires { Falls n row.now × Keys n key.now }
-    ensures { Tabled (least_at n row.now (entry key.now)) 0 (nodes row.now) out.new }
+    ensures { Tabled (least_at n row.now (entry key.now)) 0 (nodes row.now) result }
 {
     let m = nodes(row);
-    seed(n, m, key, NO_KEY, out);
-    let mut i = 0;
-    while i + 1 < m {
+    let mut least = *key;
+    least[n..].fill(NO_KEY);
+    for i in 0..m - 1 {
         let t = step(n, row, m, i);
-        lower(out, t.node, t.up);
-        i += 1;
+        lower(&mut least, t.node, t.up);
     }
+    least
 }
 
 // The interval of v starts at its offset inside that of p.
@@ -108,30 +85,17 @@ fn place(start: &mut Table, off: &Table, v: usize, p: usize)
 }
 
 // Where each node's interval of places starts; a sample's is its place. The root comes first, and each node after its parent.
-pub fn starts(n: usize, row: &[u16], off: &Table, start: &mut Table)
+pub fn starts(n: usize, row: &[u16], off: &Table) -> Table
     requires { Falls n row.now × Offsets n row.now (nodes row.now - 1) off.now }
-    ensures { Starts n row.now (entry start.new) }
+    ensures { Starts n row.now (entry result) }
 {
     let m = nodes(row);
-    start[n] = 0;
-    let mut i = m - 1;
-    while 0 < i {
-        i -= 1;
+    let mut start: Table = [0; TABLE];
+    for i in (0..m - 1).rev() {
         let t = step(n, row, m, i);
-        place(start, off, t.node, t.up);
+        place(&mut start, off, t.node, t.up);
     }
-}
-
-// Each sample its own key.
-fn numbers(n: usize, t: &mut Table)
-    requires { (n ≤ most_samples) }
-    ensures { Tabled own 0 n t.new }
-{
-    let mut s = 0;
-    while s < n {
-        t[s] = s as u16;
-        s += 1;
-    }
+    start
 }
 
 // The size of each node's group and its smallest sample: they settle the order of nodes (RULES 4.1).
@@ -156,15 +120,9 @@ impl Ranks {
         requires { Falls n row.now }
         ensures { Ranked n row.now result.size result.low × Sized n row.now result.size off.new }
     {
-        let mut ranks = Ranks {
-            size: [0; TABLE],
-            low: [0; TABLE],
-        };
-        let mut key: Table = [0; TABLE];
-        sizes(n, row, &mut ranks.size, off);
-        numbers(n, &mut key);
-        least(n, row, &key, &mut ranks.low);
-        ranks
+        let size = sizes(n, row, off);
+        let low = least(n, row, &array::from_fn(|s| s as u16));
+        Ranks { size, low }
     }
 
     // The rank of a node in standard order, as one number that rises: the size weighs most, then the smallest sample.

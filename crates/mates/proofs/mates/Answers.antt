@@ -3,8 +3,8 @@ use Rattle.trees.proofs.FallsLaws.{standard_falls}
 use Rattle.trees.proofs.PlaceLaws.{place_keys}
 use Rattle.mates.proofs.mates.Goals as goal
 
-pub of-other-requires : goal.of-other-requires
-of-other-requires c = standard_falls _ _ c.requires.2
+pub of-ranks-requires : goal.of-ranks-requires
+of-ranks-requires c = standard_falls _ _ c.requires.2
 
 pub spread-ends-requires : goal.spread-ends-requires
 spread-ends-requires c =
@@ -14,10 +14,11 @@ pub confirmations-requires : goal.confirmations-requires
 confirmations-requires c = (
   c.requires.0,
   c.requires.2,
+  c.nodes.ensures,
   record {
     sizes = c.requires.1.ranked.sizes;
     starts = c.requires.1.starts;
-    others = c.of-other.ensures.sizes;
+    others = c.of-ranks.ensures.sizes;
     first = c.spread-ends.ensures.0;
     last = c.spread-ends.ensures.1;
   },

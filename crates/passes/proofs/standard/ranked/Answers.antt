@@ -4,15 +4,6 @@ use Rattle.trees.proofs.FallsLaws.{few}
 use native.Mathlib.Omega.{arith}
 use Rattle.passes.proofs.standard.ranked.Goals as goal
 
-pub overflow_sub-last : goal.overflow_sub-last
-overflow_sub-last c = omega arith
-
-pub offset_bounds-ranks-last : goal.offset_bounds-ranks-last
-offset_bounds-ranks-last c = omega arith
-
-pub bounds-ranks-last : goal.bounds-ranks-last
-bounds-ranks-last c = omega arith
-
 pub rising-requires : goal.rising-requires
 rising-requires c = (
   c.requires.most,
