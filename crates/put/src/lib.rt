@@ -54,13 +54,10 @@ pub fn put_number(x: usize, out: &mut [u8], at: usize) -> usize
     ensures { Put (decimal x) out.old at out.new result }
 {
     let end = at + width(x);
-    let mut i = end - 1;
     let mut rest = x;
-    while TEN <= rest {
+    for i in (at..end).rev() {
         out[i] = digit(rest % TEN);
         rest /= TEN;
-        i -= 1;
     }
-    out[i] = digit(rest);
     end
 }

@@ -11,32 +11,21 @@ ghost use Rattle.put.specs.Writing.{Put, Written};
 ghost use Rattle.text.specs.Room.{field_bytes, sample_bytes, line_bytes};
 
 use crate::fields::put_field;
-use judge::{ROOT_MARK, nodes, parent, wide};
+use judge::{ROOT_MARK, nodes, parent};
 use put::{put_byte, put_bytes, put_number};
 
 // A mark for each node: there are fewer than twice 512.
 const MARKS: usize = 1024;
-
-// No node is marked.
-fn unmarked() -> [bool; MARKS]
-    ensures { result ≡ replicate mark_count false }
-{
-    [false; MARKS]
-}
 
 // Marks the inner nodes at or below v: v, and each later one whose parent is marked.
 fn marks_below(n: usize, row: &[u16], v: usize) -> [bool; MARKS]
     requires { Standard n row.now × (n ≤ v) × (v < nodes row.now) }
     ensures { Marked n row.now v (nodes row.now) result }
 {
-    let m = nodes(row);
-    let mut marks = unmarked();
+    let mut marks = [false; MARKS];
     marks[v] = true;
-    let mut u = v + 1;
-    while u < m {
-        let p = parent(row, u);
-        marks[u] = marks[p];
-        u += 1;
+    for u in v + 1..nodes(row) {
+        marks[u] = marks[parent(row, u)];
     }
     marks
 }
@@ -98,7 +87,7 @@ pub fn put_node(n: usize, row: &[u16], support: &[u16], v: usize, out: &mut [u8]
     requires { Standard n row.now × (length support.now ≡ row_words n) × (n ≤ v) × (v < nodes row.now) × (line_bytes ≤ length out.old) }
     ensures { Written (node_line n row.now support.now v) out.old out.new result }
 {
-    let front = put_front(v, parent(row, v), wide(support[v + 1]), out);
+    let front = put_front(v, parent(row, v), usize::from(support[v + 1]), out);
     let end = put_group(n, row, v, out, front);
     put_byte(b'\n', out, end)
 }

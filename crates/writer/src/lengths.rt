@@ -6,7 +6,7 @@ ghost use Rattle.newick.specs.RowText.{mark_text};
 ghost use Rattle.writer.specs.Lengths.{wanted_by, text_of, bytes_of, word_most, node_most};
 ghost use Rattle.writer.specs.Putting.{Supports, HasWord};
 
-use judge::{ROOT_MARK, nodes, parent, wide};
+use judge::{ROOT_MARK, nodes, parent};
 use put::width;
 
 // What stands before a node: an opening bracket or a comma. The root has the semicolon instead, behind it.
@@ -23,7 +23,7 @@ fn mark_width(row: &[u16], words: &[u16], v: usize) -> usize
     if (words.len() == 0) | (parent(row, v) == ROOT_MARK) {
         return 0;
     }
-    width(wide(words[v + 1]))
+    width(usize::from(words[v + 1]))
 }
 
 // How many bytes node v adds to the text.
@@ -42,12 +42,9 @@ pub fn text_length(n: usize, row: &[u16], words: &[u16]) -> usize
     requires { Valid n row.now × Supports n words.now }
     ensures { result ≡ length (text_of n row.now words.now) }
 {
-    let m = nodes(row);
-    let mut bytes: usize = 0;
-    let mut v: usize = 0;
-    while v < m {
+    let mut bytes = 0;
+    for v in 0..nodes(row) {
         bytes += node_bytes(n, row, words, v);
-        v += 1;
     }
     bytes
 }

@@ -9,7 +9,7 @@ ghost use Rattle.writer.specs.Nesting.{behind, table_text};
 ghost use Rattle.writer.specs.Putting.{Supports, HasWord, Charted};
 
 use chains::children_chained;
-use judge::{ROOT_MARK, nodes, parent, wide};
+use judge::{ROOT_MARK, nodes, parent};
 use passes::{TABLE, Table};
 use put::{put_byte, put_number};
 
@@ -22,7 +22,7 @@ fn put_mark(n: usize, words: &[u16], c: usize, out: &mut [u8], at: usize) -> usi
     if (c < n) | (words.len() == 0) {
         return at;
     }
-    put_number(wide(words[c + 1]), out, at)
+    put_number(usize::from(words[c + 1]), out, at)
 }
 
 // The text of node v but for what stands behind it: below v at most `left` brackets stand in one another.
@@ -45,11 +45,11 @@ fn put_text(
         return put_number(v, out, at);
     }
     let mut e = put_byte(b'(', out, at);
-    let mut c = wide(head[v]);
+    let mut c = usize::from(head[v]);
     loop {
         e = put_text(n, head, next, words, c, left - 1, out, e);
         e = put_mark(n, words, c, out, e);
-        c = wide(next[c]);
+        c = usize::from(next[c]);
         if c == 0 {
             return put_byte(b')', out, e);
         }
@@ -62,11 +62,12 @@ fn root(n: usize, row: &[u16]) -> usize
     requires { Valid n row.now }
     ensures { result ≡ root_of n row.now }
 {
-    let mut v = n;
-    while parent(row, v) != ROOT_MARK {
-        v += 1;
+    for v in n..nodes(row) {
+        if parent(row, v) == ROOT_MARK {
+            return v;
+        }
     }
-    v
+    unreachable!()
 }
 
 // The text of a valid row whose children stand in the tables.

@@ -7,6 +7,6 @@ use Rattle.text.proofs.node.put_node.Goals as goal
 pub returns : goal.returns
 returns c =
     put_written (omega (arith, c.put_byte.ensures.place, c.put_group-end.ensures.upper_bound, c.put_front-front.ensures.upper_bound, c.requires.0.valid.most, c.requires.4))
-    (rw (node-line c.args.n c.args.row.now c.args.support.now c.args.v c.parent.result c.wide.result
-    c.parent.ensures c.wide.ensures.0)
+    (rw (node-line c.args.n c.args.row.now c.args.support.now c.args.v c.parent.result c.from.result
+    c.parent.ensures c.from.ensures)
     at (put_then (put_then c.put_front-front.ensures.put c.put_group-end.ensures.put) c.put_byte.ensures))

@@ -13,19 +13,13 @@ parent-requires c =
     let ok = c.requires in
     omega (arith, ahead_node ok c.loop-v.invariant, ok.words, ok.high)
 
-pub overflow_add-v : goal.overflow_add-v
-overflow_add-v c =
-    let ok = c.requires in
-    omega (arith, ahead_node ok c.loop-v.invariant, ok.high, ok.most)
-
-pub loop-v-smaller : goal.loop-v-smaller
-loop-v-smaller c =
-    omega (arith, ahead_node c.requires c.loop-v.invariant)
-
 pub loop-v-preserved : goal.loop-v-preserved
 loop-v-preserved c =
-    ahead_next c.requires c.loop-v.invariant (λ e. c.loop-v-test.true (c.parent.ensures ∙ e))
+    ahead_next c.requires c.loop-v.invariant (λ e. c.if-parent-eq-ROOT_MARK.false (c.parent.ensures ∙ e))
 
-pub returns : goal.returns
-returns c =
-    ahead_end c.requires c.loop-v.invariant (sym c.parent.ensures ∙ c.loop-v-test.false)
+pub returns-then-parent-eq-ROOT_MARK : goal.returns-then-parent-eq-ROOT_MARK
+returns-then-parent-eq-ROOT_MARK c =
+    ahead_end c.requires c.loop-v.invariant (sym c.parent.ensures ∙ c.if-parent-eq-ROOT_MARK.true)
+
+pub unreachable-requires : goal.unreachable-requires
+unreachable-requires c = omega (arith, ahead_node c.requires c.loop-v.invariant, c.nodes-v-end.ensures)
