@@ -8,26 +8,23 @@ ghost use Rattle.lay.specs.Keeping.{Takes, Parts, Shuts};
 
 use crate::tables::{MARKS, Marks, ROW, Row, link, mark};
 
-// What is kept while no sample is too large: more than any sample of five digits.
-pub const NOTHING_LARGE: usize = 100000;
-
 // The topmost node of the subtree that was read last, the next number that is free, and the lowest sample that is too
-// large to have a mark.
+// large to have a mark, if there is one.
 #[derive(Clone, Copy, Debug, PartialEq, Eq)]
 pub struct Kept {
     pub root: usize,
     pub next: usize,
-    pub large: usize,
+    pub large: Option<usize>,
 }
 
 // The lowest number that is too large to have a mark, with x.
-fn large(b: usize, x: usize) -> usize
+fn large(b: Option<usize>, x: usize) -> Option<usize>
     ensures { result ≡ cond (ltb x most_samples) b (lower b x) }
 {
     if x < MARKS {
         return b;
     }
-    b.min(x)
+    Some(b.unwrap_or(x).min(x))
 }
 
 // The node of a pair at a comma: its own, or the next number where it has none yet.
