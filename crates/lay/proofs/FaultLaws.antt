@@ -1,12 +1,13 @@
 -- The marks and the lowest number that a reading keeps decide check 18; where it passes, the row that is laid renumbers to the row of the
 -- text. Assumes nothing.
-use Rattle.std.specs.Prelude.{ℕ, zero, suc, ◌+◌, ◌≤◌, ◌<◌, max, ◌≡◌, refl, ◌⊎◌, List, [], ◌∷◌, Bool, true, false, not, cond, eqb, ltb, leb, length, get_or, set}
+use Rattle.std.specs.Prelude.{ℕ, zero, suc, ◌+◌, ◌≤◌, ◌<◌, max, ◌≡◌, refl, ◌⊎◌, List, [], ◌∷◌, Bool, true, false, not, cond, eqb, ltb, leb, length, get_or, set, replicate}
 use Rattle.std.proofs.Common.{zero-le, sym, ap, ◌∙◌, inl, inr, ⊎_elim, arith, length-set, get_or-set_same, get_or-set_other, ltb-true, ltb-false, le-ltb, leb-true, leb-false, eqb-true, eq-eqb, ne_eqb}
+use Rattle.std.proofs.lemmas.List.{length-replicate, get_or-replicate}
 use Rattle.std.proofs.lemmas.Bool.{false≢true, eqb-false}
 use Rattle.std.proofs.Math.Nat.{le-max_left, le-max_right}
-use Rattle.trees.specs.Lists.{nowhere, range, zeros, first, weigh}
+use Rattle.trees.specs.Lists.{nowhere, range, first, weigh}
 use Rattle.trees.proofs.BoolLaws.{decide}
-use Rattle.trees.proofs.ListLaws.{Lowest, Scan, scan, found, missed, lowest_first, nowhere_first, length_zeros, get_or_zeros}
+use Rattle.trees.proofs.ListLaws.{Lowest, Scan, scan, found, missed, lowest_first, nowhere_first}
 use Rattle.trees.specs.Numbering.{renumbered}
 use Rattle.trees.specs.Checks.{most_samples}
 use Rattle.newick.specs.Tree.{Tree}
@@ -15,8 +16,10 @@ use Rattle.newick.specs.ReadCalls.{check18, row_in}
 use Rattle.newick.proofs.FaultLaws.{above_more, stands_exactly}
 use Rattle.newick.proofs.RoundTrip.{row-in}
 use Rattle.newick.specs.Grammar.{sample_bound}
+use Rattle.lay.specs.declared.tables.Standing.{Standing}
+use Rattle.lay.specs.declared.tables.Standing.TheVariants.{Never, Repeated}
 use Rattle.lay.specs.Laying.{once_more, tally, lower, least, grow, laid_row}
-use Rattle.lay.specs.Faults.{or_at, below_place, due, bad_mark}
+use Rattle.lay.specs.Faults.{or_at, below_place, due, told_by, bad_mark}
 use Rattle.lay.proofs.LaidRow.{laid_groups}
 
 -- ---- the lowest number
@@ -55,37 +58,38 @@ least_finds n (x ∷ xs) b = go (decide (ltb x n)) (decide (ltb x b)) (λ b'. le
 
 -- ---- the marks
 
-many : ℕ → ℕ → ℕ
+many : ℕ → Standing → Standing
 many zero v = v
 many (suc k) v = many k (once_more v)
 
-many_two : (k : ℕ) → many k 2 ≡ 2
+many_repeated : (k : ℕ) → many k Repeated ≡ Repeated
 unfolding many
-many_two zero = refl
-many_two (suc k) = many_two k
+many_repeated zero = refl
+many_repeated (suc k) = many_repeated k
 
 -- counted so, a number comes to 0 or 1 exactly where it stands never or once
-many_is : (k c : ℕ) → c ≤ 1 → eqb (many k 0) c ≡ eqb k c
+many_is : (k c : ℕ) → c ≤ 1 → eqb (told_by (many k Never)) c ≡ eqb k c
 unfolding many
 many_is zero c h = refl
 many_is (suc zero) c h = refl
-many_is (suc (suc k)) c h = rw (many_two k) (ne_eqb 2 c (λ e. omega arith) ∙ sym (ne_eqb (suc (suc k)) c (λ e. omega (arith, e))))
+many_is (suc (suc k)) c h = rw (many_repeated k) (ne_eqb 2 c (λ e. omega arith) ∙ sym (ne_eqb (suc (suc k)) c (λ e. omega (arith, e))))
 
-tally_many : (xs marks : List ℕ) (x : ℕ) → x < length marks → get_or (tally xs marks) x 0 ≡ many (times x xs) (get_or marks x 0)
+tally_many : (xs : List ℕ) (marks : List Standing) (x : ℕ) → x < length marks
+    → get_or (tally xs marks) x Never ≡ many (times x xs) (get_or marks x Never)
 unfolding tally weigh many
 tally_many [] marks x h = refl
-tally_many (y ∷ xs) marks x h = tally_many xs (set marks y (once_more (get_or marks y 0))) x
-    (omega (arith, h, length-set marks y (once_more (get_or marks y 0)))) ∙ go (decide (eqb x y))
+tally_many (y ∷ xs) marks x h = tally_many xs (set marks y (once_more (get_or marks y Never))) x
+    (omega (arith, h, length-set marks y (once_more (get_or marks y Never)))) ∙ go (decide (eqb x y))
   where
     go : (eqb x y ≡ true) ⊎ (eqb x y ≡ false)
-        → many (times x xs) (get_or (set marks y (once_more (get_or marks y 0))) x 0) ≡ many (cond (eqb x y) 1 0 + times x xs) (get_or marks x 0)
+        → many (times x xs) (get_or (set marks y (once_more (get_or marks y Never))) x Never) ≡ many (cond (eqb x y) 1 0 + times x xs) (get_or marks x Never)
     go (inl e) = let q = eqb-true x y e in
-        ap (λ (v : ℕ). many (times x xs) v)
-        (ap (λ (z : ℕ). get_or (set marks z (once_more (get_or marks z 0))) x 0) (sym q)
-        ∙ get_or-set_same marks x (once_more (get_or marks x 0)) 0 h)
-        ∙ ap (λ (k : ℕ). many k (get_or marks x 0)) (let z : suc (times x xs) ≡ cond (eqb x y) 1 0 + times x xs = rw e (omega arith) in z)
-    go (inr e) = ap (λ (v : ℕ). many (times x xs) v) (get_or-set_other marks y x (once_more (get_or marks y 0)) 0 (eqb-false x y e))
-        ∙ ap (λ (k : ℕ). many k (get_or marks x 0)) (let z : times x xs ≡ cond (eqb x y) 1 0 + times x xs = rw e (omega arith) in z)
+        ap (λ (v : Standing). many (times x xs) v)
+        (ap (λ (z : ℕ). get_or (set marks z (once_more (get_or marks z Never))) x Never) (sym q)
+        ∙ get_or-set_same marks x (once_more (get_or marks x Never)) Never h)
+        ∙ ap (λ (k : ℕ). many k (get_or marks x Never)) (let z : suc (times x xs) ≡ cond (eqb x y) 1 0 + times x xs = rw e (omega arith) in z)
+    go (inr e) = ap (λ (v : Standing). many (times x xs) v) (get_or-set_other marks y x (once_more (get_or marks y Never)) Never (eqb-false x y e))
+        ∙ ap (λ (k : ℕ). many k (get_or marks x Never)) (let z : times x xs ≡ cond (eqb x y) 1 0 + times x xs = rw e (omega arith) in z)
 
 -- ---- 18
 
@@ -96,7 +100,7 @@ due_most n x = go (ltb x n)
     go true = omega arith
     go false = omega arith
 
-module _ (n : ℕ) (most : n ≤ most_samples) (t : Tree) (marks : List ℕ) (e : marks ≡ tally (samples t) (zeros most_samples))
+module _ (n : ℕ) (most : n ≤ most_samples) (t : Tree) (marks : List Standing) (e : marks ≡ tally (samples t) (replicate most_samples Never))
     (h : (x : ℕ) → 1 ≤ times x (samples t) → x < sample_bound) where
   abbrev xs : List ℕ
   xs = samples t
@@ -109,9 +113,10 @@ module _ (n : ℕ) (most : n ≤ most_samples) (t : Tree) (marks : List ℕ) (e 
 
   -- a mark tells whether a sample is amiss; a number that has none is amiss if it stands
   mark_tells : (x : ℕ) → x < most_samples → bad_mark n marks x ≡ amiss n xs x
-  mark_tells x i = ap (λ (v : ℕ). not (eqb v (due n x)))
-      (ap (λ (w : List ℕ). get_or w x 0) e ∙ tally_many xs (zeros most_samples) x (omega (arith, i, length_zeros most_samples))
-      ∙ ap (many (times x xs)) (get_or_zeros most_samples x))
+  mark_tells x i = ap (λ (v : Standing). not (eqb (told_by v) (due n x)))
+      (ap (λ (w : List Standing). get_or w x Never) e
+      ∙ tally_many xs (replicate most_samples Never) x (omega (arith, i, length-replicate most_samples Never))
+      ∙ ap (many (times x xs)) (get_or-replicate most_samples x Never Never i))
       ∙ ap not (many_is (times x xs) (due n x) (due_most n x))
 
   far : (x : ℕ) → most_samples ≤ x → times x xs ≡ 0 → amiss n xs x ≡ false

@@ -1,5 +1,5 @@
 -- In a pair, after a subtree: a comma, the closing bracket, and nothing else. Assumes nothing.
-use Rattle.std.specs.Prelude.{ℕ, ◌+◌, ◌-◌, ◌<◌, ◌≡◌, refl, List, get_or}
+use Rattle.std.specs.Prelude.{ℕ, ◌+◌, ◌-◌, ◌<◌, ◌≡◌, refl, List, get_or, Err}
 use Rattle.std.proofs.Common.{arith, ◌∙◌}
 use Rattle.newick.specs.Tree.{Tree, Stack, depth, Held, frame, hold}
 use Rattle.newick.specs.Tree.Held.{nothing, some}
@@ -13,7 +13,7 @@ use Rattle.newick.specs.Walk.State.{want, closed, measured}
 use Rattle.newick.specs.Walk.Move.{stuck}
 use Rattle.newick.specs.Walk.Parse.{stops}
 use Rattle.newick.specs.Grammar.{most_open}
-use Rattle.scan.specs.declared.Progress.TheVariants.{Stopped}
+use Rattle.scan.specs.declared.Stop.{Stop}
 use Rattle.scan.specs.Scanning.{from, Fresh, Marked, Closes, Stuck}
 use Rattle.scan.specs.RunLaws.{look_within, from_to, from_stops}
 use Rattle.scan.specs.StateLaws.{clash}
@@ -77,7 +77,7 @@ module _ (l : List ℕ) (p d j e : ℕ) (h : 0 < d) (s : Inside l p d j) (w : Wh
     goes = λ k u. inside_sub k u ∙ inside_shut l e k s.held w.tree b ∙ c.goes k (hold s.held w.tree);
   }
 
-  pub inside_unclosed : (q : ℕ) → get_or l e 0 ≡ closing_byte → Closes l (e + 1) (Stopped q) → Stuck l p d q
+  pub inside_unclosed : (q : Stop) → get_or l e 0 ≡ closing_byte → Closes l (e + 1) (Err q) → Stuck l p d q.at
   inside_unclosed q b c = λ k u. inside_sub k u ∙ inside_shut l e k s.held w.tree b ∙ c k (hold s.held w.tree)
 
   pub inside_ends : (get_or l e 0 ≡ closing_byte → ⊥) → (get_or l e 0 ≡ comma_byte → ⊥) → Stuck l p d e

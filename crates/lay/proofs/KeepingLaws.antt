@@ -1,5 +1,5 @@
 -- What has been laid, step by step: behind an opening bracket or a comma, after a subtree, and at the closing bracket. Assumes nothing.
-use Rattle.std.specs.Prelude.{ℕ, zero, suc, ◌+◌, ◌≤◌, ◌<◌, ◌≡◌, refl, ◌⊎◌, List, [], ◌∷◌, ◌++◌, Bool, true, false, length, set}
+use Rattle.std.specs.Prelude.{ℕ, zero, suc, ◌+◌, ◌≤◌, ◌<◌, ◌≡◌, refl, ◌⊎◌, List, [], ◌∷◌, ◌++◌, Bool, true, false, set}
 use Rattle.std.proofs.Common.{sym, ◌∙◌, inl, inr, ⊎_elim, add-one, arith, eqb-true}
 use Rattle.std.proofs.Math.Path.{ap}
 use Rattle.std.proofs.Math.Dec.{eqb}
@@ -12,13 +12,12 @@ use Rattle.newick.specs.Tree.{Mark, Tree, Forest, Held, hold}
 use Rattle.newick.specs.Tree.Tree.{leaf, pair}
 use Rattle.newick.specs.Tree.Held.{nothing, some}
 use Rattle.newick.specs.Meaning.{samples, samples_in, times}
-use Rattle.scan.specs.declared.Progress.{Progress}
-use Rattle.scan.specs.declared.numbers.Number.{Number}
 use Rattle.newick.specs.Grammar.{sample_bound}
 use Rattle.lay.specs.Laying.{Link, link, sets, Braid, node_of, then_by, grow, spread, tally, least}
-use Rattle.lay.proofs.LaidRow.{length_links}
-use Rattle.lay.proofs.TallyLaws.{sets_append, tally_append, least_append, length_tally}
-use Rattle.lay.specs.Keeping.{Kept, kept_words, kept_in, Lent, Lays, Takes, Parts, Shuts, spread_held, samples_held, Along}
+use Rattle.lay.proofs.TallyLaws.{sets_append, tally_append, least_append}
+use Rattle.lay.specs.declared.keep.Kept.{Kept}
+use Rattle.lay.specs.declared.tables.Standing.{Standing}
+use Rattle.lay.specs.Keeping.{Lays, Takes, Parts, Shuts, spread_held, samples_held, Along}
 use Rattle.lay.specs.Keeping.{After}
 
 -- ---- one subtree more
@@ -33,7 +32,7 @@ unfolding samples
 samples_hold nothing t = refl
 samples_hold (some f) t = refl
 
-pub along_start : (c : Kept) (row marks : List ℕ) → 1 ≤ c.next → c.next ≤ table_words → Along nothing c row marks 0 c row marks
+pub along_start : (c : Kept) (row : List ℕ) (marks : List Standing) → 1 ≤ c.next → c.next ≤ table_words → Along nothing c row marks 0 c row marks
 unfolding sets tally least weigh
 along_start c row marks h k = record {
   links = refl;
@@ -47,7 +46,8 @@ along_start c row marks h k = record {
   below = λ x i. absurd (omega arith);
 }
 
-pub along_sub : (h : Held) (t : Tree) (c : Kept) (row₀ marks₀ : List ℕ) (v : ℕ) (d g : Kept) (row marks row' marks' : List ℕ)
+pub along_sub : (h : Held) (t : Tree) (c : Kept) (row₀ : List ℕ) (marks₀ : List Standing) (v : ℕ) (d g : Kept) (row : List ℕ) (marks : List Standing) (row' : List ℕ)
+    (marks' : List Standing)
     → Along h c row₀ marks₀ v d row marks → Lays t d row marks g row' marks' → After (hold h t) c row₀ marks₀ v g row' marks'
 along_sub h t c row₀ marks₀ v d g row marks row' marks' A L =
     let b = spread_held h c.next in
@@ -80,16 +80,16 @@ unfolding sets
 last_link ls c p row₀ row e =
     ap (λ (z : List ℕ). set z (c + 1) p) e ∙ ap (λ (i : ℕ). set (sets ls row₀) i p) (add-one c) ∙ sym (sets_append ls (link c p ∷ []) row₀)
 
-module _ (f : Forest) (c : Kept) (row₀ marks₀ : List ℕ) (v : ℕ) (kept row marks : List ℕ)
-    (A : After f c row₀ marks₀ v (kept_in kept) row marks) where
+module _ (f : Forest) (c : Kept) (row₀ : List ℕ) (marks₀ : List Standing) (v : ℕ) (kept : Kept) (row : List ℕ) (marks : List Standing)
+    (A : After f c row₀ marks₀ v kept row marks) where
   abbrev b : Braid
   b = spread f c.next
 
-  pub after_comma : (r : ℕ) (kept' row' : List ℕ) → Parts v kept row r kept' row' → 1 ≤ (kept_in kept').next
-      → Along (some f) c row₀ marks₀ r (kept_in kept') row' marks
+  pub after_comma : (r : ℕ) (kept' : Kept) (row' : List ℕ) → Parts v kept row r kept' row' → 1 ≤ kept'.next
+      → Along (some f) c row₀ marks₀ r kept' row' marks
   after_comma r kept' row' P low =
-      let w : node_of v (kept_in kept).next ≡ node_of b.node b.next = rw (A.node, A.next) refl in record {
-        links = P.links ∙ ap (λ (x : ℕ). set row (x + 1) (node_of v (kept_in kept).next)) A.root ∙ ap (set row (b.root + 1)) w
+      let w : node_of v kept.next ≡ node_of b.node b.next = rw (A.node, A.next) refl in record {
+        links = P.links ∙ ap (λ (x : ℕ). set row (x + 1) (node_of v kept.next)) A.root ∙ ap (set row (b.root + 1)) w
             ∙ last_link b.links b.root (node_of b.node b.next) row₀ row A.links;
         stands = A.stands;
         node = P.node ∙ w;
@@ -101,15 +101,15 @@ module _ (f : Forest) (c : Kept) (row₀ marks₀ : List ℕ) (v : ℕ) (kept ro
         below = A.below;
       }
 
-  pub after_shut : (μ : Mark) (kept' row' : List ℕ) → Shuts v kept row kept' row'
-      → Lays (pair f μ) c row₀ marks₀ (kept_in kept') row' marks
+  pub after_shut : (μ : Mark) (kept' : Kept) (row' : List ℕ) → Shuts v kept row kept' row'
+      → Lays (pair f μ) c row₀ marks₀ kept' row' marks
   unfolding grow samples
   after_shut μ kept' row' S = go (decide (eqb b.node 0))
     where
       nd : (x : Bool) → eqb b.node 0 ≡ x → eqb v 0 ≡ x
       nd x e = ap (λ (i : ℕ). eqb i 0) A.node ∙ e
 
-      go : (eqb b.node 0 ≡ true) ⊎ (eqb b.node 0 ≡ false) → Lays (pair f μ) c row₀ marks₀ (kept_in kept') row' marks
+      go : (eqb b.node 0 ≡ true) ⊎ (eqb b.node 0 ≡ false) → Lays (pair f μ) c row₀ marks₀ kept' row' marks
       go (inl e) = let z = nd true e in record {
         links = S.links ∙ rw (z, e) A.links;
         stands = A.stands;
@@ -134,11 +134,10 @@ module _ (f : Forest) (c : Kept) (row₀ marks₀ : List ℕ) (v : ℕ) (kept ro
 
 -- ---- a sample
 
-pub lays_leaf : (x : Number) (kept marks : List ℕ) (r : Progress) (kept' marks' row : List ℕ) → Takes x kept marks r kept' marks'
-    → x.value < sample_bound → (kept_in kept).next ≤ table_words
-    → Lays (leaf x.value) (kept_in kept) row marks (kept_in kept') row marks'
+pub lays_leaf : (x : ℕ) (kept : Kept) (marks : List Standing) (kept' : Kept) (marks' : List Standing) (row : List ℕ) → Takes x kept marks kept' marks'
+    → x < sample_bound → kept.next ≤ table_words → Lays (leaf x) kept row marks kept' row marks'
 unfolding grow samples sets tally least weigh
-lays_leaf x kept marks r kept' marks' row T h k = record {
+lays_leaf x kept marks kept' marks' row T h k = record {
   links = refl;
   stands = T.stands;
   root = T.root;
@@ -147,23 +146,5 @@ lays_leaf x kept marks r kept' marks' row T h k = record {
   small = omega (arith, T.root, h);
   most = omega (arith, T.next);
   below =
-      λ y i. ⊎_elim (λ e. omega (arith, eqb-true y x.value e, h)) (λ e. absurd (omega (arith, rw e at i))) (decide (eqb y x.value));
-}
-
--- ---- the sizes
-
-pub lays_lent : (t : Tree) (c : Kept) (kept row marks : List ℕ) (g : Kept) (kept' row' marks' : List ℕ) → Lent kept row marks
-    → Lays t c row marks g row' marks' → length kept' ≡ kept_words → Lent kept' row' marks'
-lays_lent t c kept row marks g kept' row' marks' T L e = record {
-  numbers = e;
-  words = ap length L.links ∙ length_links (grow t c.next).links row ∙ T.words;
-  tallies = ap length L.stands ∙ length_tally (samples t) marks ∙ T.tallies;
-}
-
-pub along_lent : (h : Held) (c : Kept) (kept₀ row₀ marks₀ : List ℕ) (v : ℕ) (d : Kept) (kept row marks : List ℕ) → Lent kept₀ row₀ marks₀
-    → Along h c row₀ marks₀ v d row marks → length kept ≡ kept_words → Lent kept row marks
-along_lent h c kept₀ row₀ marks₀ v d kept row marks T A e = record {
-  numbers = e;
-  words = ap length A.links ∙ length_links (spread_held h c.next).links row₀ ∙ T.words;
-  tallies = ap length A.stands ∙ length_tally (samples_held h) marks₀ ∙ T.tallies;
+      λ y i. ⊎_elim (λ e. omega (arith, eqb-true y x e, h)) (λ e. absurd (omega (arith, rw e at i))) (decide (eqb y x));
 }

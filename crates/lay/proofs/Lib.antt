@@ -6,5 +6,4 @@ pub mod InsideLaws
 pub mod KeepingLaws
 pub mod FaultLaws
 pub mod ReadLaws
-pub mod Steps
 pub mod Loop

@@ -7,6 +7,8 @@ use Rattle.trees.specs.Rows.{root_mark}
 use Rattle.trees.specs.Checks.{row_words}
 use Rattle.trees.specs.Tables.{table_words}
 use Rattle.newick.specs.Tree.{Tree, Forest}
+use Rattle.lay.specs.declared.tables.Standing.{Standing}
+use Rattle.lay.specs.declared.tables.Standing.TheVariants.{Never, Once, Repeated}
 use Rattle.newick.specs.Tree.Tree.{leaf, pair}
 use Rattle.newick.specs.Tree.Forest.{only, more}
 
@@ -78,14 +80,16 @@ unfoldable mutual
   spread (only t) k = first_of (grow t k)
   spread (more f t) k = then_by (part_by (spread f k)) (grow t (part_by (spread f k)).next)
 
--- a mark tells how often a number stands, 2 for more than once; that of one which stands once more
-abbrev pub once_more : ℕ → ℕ
-once_more mark = cond (eqb mark 0) 1 2
+-- the mark of a number that stands once more
+abbrev pub once_more : Standing → Standing
+once_more Never = Once
+once_more Once = Repeated
+once_more Repeated = Repeated
 
 -- the marks with those of a list of numbers
-unfoldable pub tally : List ℕ → List ℕ → List ℕ
+unfoldable pub tally : List ℕ → List Standing → List Standing
 tally [] marks = marks
-tally (x ∷ xs) marks = tally xs (set marks x (once_more (get_or marks x 0)))
+tally (x ∷ xs) marks = tally xs (set marks x (once_more (get_or marks x Never)))
 
 -- the lowest number that is not below n, or b where that is lower
 abbrev pub lower : ℕ → ℕ → ℕ

@@ -5,6 +5,6 @@ mod keep;
 mod subtrees;
 mod tables;
 
-pub use keep::{KEPT, Kept, LARGE, NEXT, NOTHING_LARGE, ROOT};
+pub use keep::{Kept, NOTHING_LARGE};
 pub use subtrees::subtree;
-pub use tables::{MARKS, Marks, ROW, Row};
+pub use tables::{MARKS, Marks, ROW, Row, Standing, link};

@@ -1,9 +1,9 @@
 // The row and the marks of the samples, which are lent to a reading.
-ghost use Rattle.std.specs.Prelude.{◌≡◌, ◌+◌, ◌<◌, ◌≤◌, length, get_or, set};
-ghost use Rattle.trees.specs.Checks.{most_samples};
-ghost use Rattle.trees.specs.Tables.{table_words};
+ghost use Rattle.std.specs.Prelude.{◌≡◌, ◌+◌, ◌<◌, ◌≤◌, get_or, set};
+ghost use Rattle.trees.specs.Rows.{root_mark};
 ghost use Rattle.newick.specs.Grammar.{sample_bound};
 ghost use Rattle.lay.specs.Laying.{once_more};
+ghost use Rattle.lay.specs.declared.tables.Standing.TheVariants.{Never};
 
 use judge::MOST_SAMPLES;
 
@@ -12,33 +12,34 @@ pub const ROW: usize = 1024;
 
 pub type Row = [u16; ROW];
 
+// How often a sample stands in a text.
+#[derive(Clone, Copy, Debug, PartialEq, Eq)]
+pub enum Standing {
+    Never,
+    Once,
+    Repeated,
+}
+
 // A mark for each sample that there can be: how often it stands.
 pub const MARKS: usize = MOST_SAMPLES;
 
-pub type Marks = [u8; MARKS];
-
-// The mark of a sample that stands once, and of one that stands more than once.
-const ONCE: u8 = 1;
-
-const REPEATED: u8 = 2;
+pub type Marks = [Standing; MARKS];
 
 // Sample x stands once more.
 pub(crate) fn mark(x: usize, marks: &mut Marks)
-    requires { length marks.old ≡ most_samples }
-    ensures { marks.new ≡ set marks.old x (once_more (get_or marks.old x 0)) }
+    ensures { marks.new ≡ set marks.old x (once_more (get_or marks.old x Never)) }
 {
     if x < MARKS {
-        if marks[x] == 0 {
-            marks[x] = ONCE;
-        } else {
-            marks[x] = REPEATED;
-        }
+        marks[x] = match marks[x] {
+            Standing::Never => Standing::Once,
+            Standing::Once | Standing::Repeated => Standing::Repeated,
+        };
     }
 }
 
-// The parent of a node, where it has a word.
-pub(crate) fn link(child: usize, up: usize, row: &mut Row)
-    requires { (child < sample_bound) × (up ≤ table_words) × (length row.old ≡ table_words) }
+// The parent of a node, or the mark of the topmost one, where the node has a word.
+pub fn link(child: usize, up: usize, row: &mut Row)
+    requires { (child < sample_bound) × (up ≤ root_mark) }
     ensures { row.new ≡ set row.old (child + 1) up }
 {
     let w = child + 1;

@@ -8,19 +8,20 @@ ghost use Rattle.text.specs.Room.{line_bytes};
 ghost use Rattle.listing.specs.Listing.{lines_of};
 ghost use Rattle.listing.specs.Told.{shows, Printable};
 
-use crate::told::Told;
+use crate::told::Refused;
+use file::Sizes;
 use judge::nodes;
 use text::{put_head, put_node, put_refusal};
 
 // How many lines there are.
-pub fn line_count(told: Told, agreed: &[u16], support: &[u16]) -> usize
+pub fn line_count(told: Result<Sizes, Refused>, agreed: &[u16], support: &[u16]) -> usize
     requires { Printable told agreed.now support.now }
     ensures { result ≡ length (lines_of (shows told agreed.now support.now)) }
 {
-    let Told::Ready(n, _) = told else {
+    let Ok(sizes) = told else {
         return 1;
     };
-    nodes(agreed) - n + 1
+    nodes(agreed) - sizes.samples + 1
 }
 
 // Line i of a tree.
@@ -36,12 +37,20 @@ fn tree_line(n: usize, k: usize, row: &[u16], support: &[u16], i: usize, out: &m
 }
 
 // Line i.
-pub fn put_line(told: Told, agreed: &[u16], support: &[u16], i: usize, out: &mut [u8]) -> usize
+pub fn put_line(
+    told: Result<Sizes, Refused>,
+    agreed: &[u16],
+    support: &[u16],
+    i: usize,
+    out: &mut [u8],
+) -> usize
     requires { Printable told agreed.now support.now × (i < length (lines_of (shows told agreed.now support.now))) × (line_bytes ≤ length out.old) }
     ensures { Written (get_or (lines_of (shows told agreed.now support.now)) i []) out.old out.new result }
 {
     match told {
-        Told::Refused(number, slot, place) => put_refusal(number, slot, place, out),
-        Told::Ready(n, k) => tree_line(n, k, &agreed[..2 * n], &support[..2 * n], i, out),
+        Ok(Sizes { samples: n, runs: k }) => {
+            tree_line(n, k, &agreed[..2 * n], &support[..2 * n], i, out)
+        }
+        Err(Refused { why, slot }) => put_refusal(why.reason.number(), slot, why.place, out),
     }
 }

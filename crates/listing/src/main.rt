@@ -11,10 +11,11 @@ ghost use Rattle.text.specs.Room.{line_bytes};
 ghost use Rattle.listing.specs.Listing.{lines_of};
 ghost use Rattle.listing.specs.Told.{shows, Printable};
 
+use file::Sizes;
 use std::io;
 use std::io::{Read, Write};
 use text::LINE_BYTES;
-use told::{ROW_ROOM, STUDY_WORDS, Told};
+use told::{ROW_ROOM, Refused, STUDY_WORDS};
 
 // Bytes of the file's buffer: more than a file can have (RULES 1.5), so that a file that is too long is noticed.
 const FILE_ROOM: usize = 65536;
@@ -52,7 +53,7 @@ fn list<W: Write>(bytes: &[u8], output: &mut W) -> io::Result<()> {
 
 // Writes line by line.
 fn print<W: Write>(
-    told: Told,
+    told: Result<Sizes, Refused>,
     agreed: &[u16],
     support: &[u16],
     output: &mut W,
@@ -69,7 +70,7 @@ fn print<W: Write>(
 
 // Writes line i.
 fn print_line<W: Write>(
-    told: Told,
+    told: Result<Sizes, Refused>,
     agreed: &[u16],
     support: &[u16],
     i: usize,

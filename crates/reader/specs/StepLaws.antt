@@ -1,6 +1,6 @@
 -- The steps of reading a text come to what the text is: a tree, or a place where it stops being of the form. Assumes nothing.
-use Rattle.std.specs.Prelude.{ℕ, ◌+◌, ◌≤◌, ◌<◌, ◌≡◌, ◌⊎◌, true, false, List, eqb, get_or}
-use Rattle.std.proofs.Common.{arith, sym, ap, subst, ◌∙◌, inl, inr, eqb-true, eq-eqb, ne_eqb}
+use Rattle.std.specs.Prelude.{ℕ, ◌+◌, ◌≤◌, ◌<◌, ◌≡◌, ◌⊎◌, true, false, List, eqb, get_or, Result, Ok, Err}
+use Rattle.std.proofs.Common.{arith, sym, subst, ◌∙◌, inl, inr, eqb-true}
 use Rattle.std.proofs.Math.Path.{refl}
 use Rattle.std.proofs.Math.ListN.{length}
 use Rattle.std.proofs.lemmas.Bool.{eqb-false}
@@ -14,37 +14,14 @@ use Rattle.newick.specs.Walk.State.{measured, done}
 use Rattle.newick.specs.Walk.Move.{stuck}
 use Rattle.newick.specs.Walk.Parse.{reads, stops}
 use Rattle.newick.specs.Grammar.{most_open}
-use Rattle.scan.specs.declared.Progress.{Progress}
-use Rattle.scan.specs.declared.Progress.TheVariants.{Reached, Stopped}
+use Rattle.scan.specs.declared.Stop.{Stop}
 use Rattle.scan.specs.Scanning.{past, from, Fresh, Stuck}
 use Rattle.scan.specs.RunLaws.{look_within, past_within, past_next, from_to, from_stuck, from_end, from_stops}
 use Rattle.scan.specs.StateLaws.{clash, blanks_on}
+use Rattle.lay.specs.declared.keep.Kept.{Kept}
+use Rattle.lay.specs.declared.tables.Standing.{Standing}
 use Rattle.lay.specs.Keeping.{Whole, LaidTo, Laid}
-use Rattle.reader.specs.Steps.{semicolon_from, blanks_from, end_from, Reads, WholeOf, Texts}
-
--- ---- the steps, as the code takes them
-
-module _ (l : List ℕ) (p : Progress) (at : ℕ) (e : p ≡ Reached at) where
-  pub semicolon_yes : (b : ℕ) → b ≡ get_or l at 0 → b ≡ semicolon_byte → Reached (at + 1) ≡ semicolon_from l p
-  semicolon_yes b f g = rw (e, eq-eqb (get_or l at 0) semicolon_byte (sym f ∙ g)) refl
-
-  pub semicolon_no : (b : ℕ) → b ≡ get_or l at 0 → (b ≡ semicolon_byte → ⊥) → Stopped at ≡ semicolon_from l p
-  semicolon_no b f g = rw (e, ne_eqb (get_or l at 0) semicolon_byte (λ q. g (f ∙ q))) refl
-
-  pub blanks_past : (a : ℕ) → a ≡ past is_blank l at → Reached a ≡ blanks_from l p
-  blanks_past a f = rw e (ap Reached f)
-
-  pub end_yes : at ≡ length l → Reached at ≡ end_from l p
-  end_yes f = rw (e, eq-eqb at (length l) f) refl
-
-  pub end_no : (q : ℕ) → q ≡ at → (at ≡ length l → ⊥) → Stopped q ≡ end_from l p
-  end_no q g f = rw (e, ne_eqb at (length l) f) (ap Stopped g)
-
--- a subtree with all brackets left
-pub reads_at : (l : List ℕ) (p : Progress) (at d : ℕ) (kept row marks : List ℕ) (r : Progress) (kept' row' marks' : List ℕ)
-    → p ≡ Reached at → d ≡ most_open
-    → Laid l at d kept row marks r kept' row' marks' → Reads l p kept row marks r kept' row' marks'
-reads_at l p at d kept row marks r kept' row' marks' e f L = rw e (subst (λ (i : ℕ). Laid l at i kept row marks r kept' row' marks') f L)
+use Rattle.reader.specs.Steps.{semicolon_from, blanks_from, end_from, WholeOf, Texts}
 
 -- ---- what follows the tree
 
@@ -91,10 +68,10 @@ text_reads : (l : List ℕ) (e : ℕ) (w : Whole l 0 most_open e) → parsed l �
 unfolding parsed depth
 text_reads l e w = w.goes top refl
 
-module _ (l kept row marks kept' row' marks' : List ℕ) where
+module _ (l : List ℕ) (kept : Kept) (row : List ℕ) (marks : List Standing) (kept' : Kept) (row' : List ℕ) (marks' : List Standing) where
   -- a tree up to e, and what follows it
   after_tree : (e : ℕ) → LaidTo l 0 most_open kept row marks e kept' row' marks'
-      → Texts l kept row marks (end_from l (blanks_from l (semicolon_from l (Reached e)))) kept' row' marks'
+      → Texts l kept row marks (end_from l (blanks_from l (semicolon_from l (Ok e)))) kept' row' marks'
   after_tree e L = go (decide (eqb (get_or l e 0) semicolon_byte)) (decide (eqb (past is_blank l (e + 1)) (length l)))
     where
       t : Tree
@@ -102,24 +79,23 @@ module _ (l kept row marks kept' row' marks' : List ℕ) where
 
       go : (eqb (get_or l e 0) semicolon_byte ≡ true) ⊎ (eqb (get_or l e 0) semicolon_byte ≡ false)
           → (eqb (past is_blank l (e + 1)) (length l) ≡ true) ⊎ (eqb (past is_blank l (e + 1)) (length l) ≡ false)
-          → Texts l kept row marks (end_from l (blanks_from l (semicolon_from l (Reached e)))) kept' row' marks'
+          → Texts l kept row marks (end_from l (blanks_from l (semicolon_from l (Ok e)))) kept' row' marks'
       go (inr a) d =
           rw a (text_reads l e L.whole ∙ top_stops l e L.whole.tree L.whole.fresh (eqb-false (get_or l e 0) semicolon_byte a))
       go (inl a) (inl d) = rw (a, d) (record {
         tree = L.whole.tree;
         lays = L.lays;
-        lent = L.lent;
         read = text_reads l e L.whole
             ∙ top_ends l e L.whole.tree (eqb-true (get_or l e 0) semicolon_byte a) (eqb-true (past is_blank l (e + 1)) (length l) d);
       })
       go (inl a) (inr d) = rw (a, d) (text_reads l e L.whole
           ∙ top_more l e L.whole.tree (eqb-true (get_or l e 0) semicolon_byte a) (eqb-false (past is_blank l (e + 1)) (length l) d))
 
-  after_subtree : (p : Progress) → Reads l (Reached 0) kept row marks p kept' row' marks'
+  after_subtree : (p : Result ℕ Stop) → Laid l 0 most_open kept row marks p kept' row' marks'
       → Texts l kept row marks (end_from l (blanks_from l (semicolon_from l p))) kept' row' marks'
-  after_subtree (Reached e) L = after_tree e L
-  after_subtree (Stopped q) L = text_stops l q L
+  after_subtree (Ok e) L = after_tree e L
+  after_subtree (Err q) L = text_stops l q.at L
 
   -- what the steps come to
-  pub composed : (r : Progress) → WholeOf l kept row marks r kept' row' marks' → Texts l kept row marks r kept' row' marks'
-  composed r C = subst (λ (z : Progress). Texts l kept row marks z kept' row' marks') (sym C.2) (after_subtree C.0 C.1)
+  pub composed : (r : Result ℕ Stop) → WholeOf l kept row marks r kept' row' marks' → Texts l kept row marks r kept' row' marks'
+  composed r C = subst (λ (z : Result ℕ Stop). Texts l kept row marks z kept' row' marks') (sym C.2) (after_subtree C.0 C.1)

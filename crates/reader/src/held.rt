@@ -1,77 +1,77 @@
-// A reader over a text. Its functions take it apart and leave the work to `steps`.
-ghost use Rattle.std.specs.Prelude.{◌≡◌};
-ghost use Rattle.reader.specs.Steps.{semicolon_from, blanks_from, end_from, Ready, Reads, WholeOf};
-ghost use Rattle.scan.specs.declared.Progress.TheVariants.{Reached};
+// A reader over a text (RULES 13.8), and the whole text read by it.
+ghost use Rattle.std.specs.Prelude.{◌≡◌, Ok};
+ghost use Rattle.newick.specs.Bytes.{is_blank};
+ghost use Rattle.scan.specs.Scanning.{past};
+ghost use Rattle.reader.specs.Steps.{semicolon_from, end_from, ReadyAt, Ready, Goes, Reads, WholeOf};
 
-use crate::steps::{blanks_from, end_from, semicolon_from, subtree_from};
 use lay::{Kept, Marks, Row};
-use scan::Progress;
+use scan::{Stop, look};
 
-// A reader: the text, and how far it has come in it.
+// How many brackets may stand in one another (RULES 14).
+const MOST_NESTED: usize = 511;
+
+// A text, and how far it has been read.
 #[derive(Clone, Copy)]
 pub struct Reader<'a> {
     pub text: &'a [u8],
-    pub progress: Progress,
+    pub at: usize,
 }
 
-// A reader over a text, at its start.
-pub fn over<'a>(text: &'a [u8]) -> Reader<'a>
-    ensures { (result.text ≡ text.entry) × (result.progress ≡ Reached 0) }
-{
-    Reader {
-        text,
-        progress: Progress::Reached(0),
+impl<'a> Reader<'a> {
+    // A reader at the start of a text.
+    pub fn over(text: &'a [u8]) -> Reader<'a>
+        ensures { (result.text ≡ text.entry) × (result.at ≡ 0) }
+    {
+        Reader { text, at: 0 }
+    }
+
+    // Past a subtree, which is laid into the room that is lent.
+    pub fn subtree(&mut self, kept: &mut Kept, row: &mut Row, marks: &mut Marks) -> Result<(), Stop>
+        requires { Ready self.old kept.old }
+        ensures { Reads self.old kept.old row.old marks.old result self.new kept.new row.new marks.new }
+    {
+        self.at = lay::subtree(self.text, self.at, MOST_NESTED, kept, row, marks)?;
+        Ok(())
+    }
+
+    // Past a semicolon.
+    pub fn semicolon(&mut self) -> Result<(), Stop>
+        ensures { Goes self.old result self.new (semicolon_from self.old.text.now (Ok self.old.at)) }
+    {
+        if look(self.text, self.at) == b';' {
+            self.at += 1;
+            Ok(())
+        } else {
+            Err(Stop { at: self.at })
+        }
+    }
+
+    // Past the blanks.
+    pub fn skip_blanks(&mut self)
+        ensures { (self.new.text ≡ self.old.text) × (self.new.at ≡ past is_blank self.old.text.now self.old.at) }
+    {
+        self.at = scan::skip_blanks(self.text, self.at);
+    }
+
+    // The end of the text, which has to be here.
+    pub fn end(&self) -> Result<usize, Stop>
+        ensures { result ≡ end_from self.now.text.now (Ok self.now.at) }
+    {
+        if self.at != self.text.len() {
+            return Err(Stop { at: self.at });
+        }
+        Ok(self.at)
     }
 }
 
-// Past a subtree, which is laid into the room that is lent.
-pub fn subtree<'a>(r: Reader<'a>, kept: &mut Kept, row: &mut Row, marks: &mut Marks) -> Reader<'a>
-    requires { Ready r.text.now r.progress kept.old row.old marks.old }
-    ensures { (result.text ≡ r.entry.text)
-        × Reads r.entry.text.now r.entry.progress
-        kept.old row.old marks.old
-        result.progress kept.new row.new marks.new }
+// The whole text, through a reader: a subtree, a semicolon, blanks, the end (RULES 14). The end is the answer.
+pub fn whole(text: &[u8], kept: &mut Kept, row: &mut Row, marks: &mut Marks) -> Result<usize, Stop>
+    requires { ReadyAt text.now 0 kept.old }
+    ensures { WholeOf text.now kept.old row.old marks.old result kept.new row.new marks.new }
 {
-    Reader {
-        text: r.text,
-        progress: subtree_from(r.text, r.progress, kept, row, marks),
-    }
-}
-
-// Past the semicolon.
-pub fn semicolon<'a>(r: Reader<'a>) -> Reader<'a>
-    ensures { (result.text ≡ r.entry.text)
-        × (result.progress ≡ semicolon_from r.entry.text.now r.entry.progress) }
-{
-    Reader {
-        text: r.text,
-        progress: semicolon_from(r.text, r.progress),
-    }
-}
-
-// Past the blanks.
-pub fn skip_blanks<'a>(r: Reader<'a>) -> Reader<'a>
-    ensures { (result.text ≡ r.entry.text)
-        × (result.progress ≡ blanks_from r.entry.text.now r.entry.progress) }
-{
-    Reader {
-        text: r.text,
-        progress: blanks_from(r.text, r.progress),
-    }
-}
-
-// Whether the text ends here.
-pub fn at_end<'a>(r: Reader<'a>) -> Progress
-    ensures { result ≡ end_from r.entry.text.now r.entry.progress }
-{
-    end_from(r.text, r.progress)
-}
-
-// The whole text, through a reader: a subtree, a semicolon, blanks, the end (RULES 14).
-pub fn whole(text: &[u8], kept: &mut Kept, row: &mut Row, marks: &mut Marks) -> Progress
-    requires { Ready text.now (Reached 0) kept.old row.old marks.old }
-    ensures { WholeOf text.now kept.old row.old marks.old
-        result kept.new row.new marks.new }
-{
-    at_end(skip_blanks(semicolon(subtree(over(text), kept, row, marks))))
+    let mut reader = Reader::over(text);
+    reader.subtree(kept, row, marks)?;
+    reader.semicolon()?;
+    reader.skip_blanks();
+    reader.end()
 }

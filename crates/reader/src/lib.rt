@@ -5,6 +5,5 @@
 mod checks;
 mod held;
 mod reading;
-mod steps;
 
 pub use reading::read_newick;

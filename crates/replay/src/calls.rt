@@ -15,12 +15,11 @@
 // A call that is added has a line above, a variant below, an arm in `op_of` and in `called` and a function of its own.
 ghost use Rattle.std.specs.Prelude.{◌≡◌, length, IfSome};
 ghost use Rattle.replay.specs.Words.{Short, Roomy};
-ghost use Rattle.replay.specs.Calls.{op_number, head_of, plain_reply, reply_to, reply_counts, reply_length, reply_words};
+ghost use Rattle.replay.specs.Calls.{op_number, head_of, counts_reply, refused_reply, reply_to, reply_counts, reply_length, reply_words};
 
 use crate::texts::{narrow, widen};
 use compare::Comparison;
-use judge::Answer;
-use writer::Written;
+use judge::Refusal;
 
 // The calls.
 #[derive(Clone, Copy, Debug, PartialEq, Eq)]
@@ -179,7 +178,7 @@ fn written_text(head: Head, a: &[u16], b: &[u16], c: &mut [u16], text: &mut [u8]
 }
 
 // What writing the row a answers, with the support b or without.
-fn put_row(head: Head, a: &[u16], b: &[u16], text: &mut [u8]) -> Written
+fn put_row(head: Head, a: &[u16], b: &[u16], text: &mut [u8]) -> Result<usize, Refusal>
     ensures { length text.new ≡ length text.old }
 {
     if head.y == SUPPORTS {
@@ -189,57 +188,58 @@ fn put_row(head: Head, a: &[u16], b: &[u16], text: &mut [u8]) -> Written
 }
 
 // The reply that a writing makes.
-fn reply_length(written: Written) -> Reply
+fn reply_length(written: Result<usize, Refusal>) -> Reply
     ensures { result ≡ reply_length written }
 {
     match written {
-        Written::Length(c1) => Reply {
-            number: 0,
-            place: 0,
-            c1,
-            c2: 0,
-            c3: 0,
-        },
-        Written::Refused(number, place) => plain_reply(number, place),
+        Ok(length) => counts_reply(length, 0, 0),
+        Err(refusal) => refused_reply(refusal),
     }
 }
 
 // The reply that a comparison makes.
-fn reply_counts(comparison: Comparison) -> Reply
-    ensures { result ≡ reply_counts comparison }
+fn reply_counts(compared: Result<Comparison, Refusal>) -> Reply
+    ensures { result ≡ reply_counts compared }
 {
-    match comparison {
-        Comparison::Counted(c1, c2, c3) => Reply {
-            number: 0,
-            place: 0,
-            c1,
-            c2,
-            c3,
-        },
-        Comparison::Refused(number, place) => plain_reply(number, place),
+    match compared {
+        Ok(groups) => counts_reply(groups.both, groups.first, groups.second),
+        Err(refusal) => refused_reply(refusal),
     }
 }
 
 // The reply that an answer makes.
-fn reply_to(answer: Answer) -> Reply
+fn reply_to(answer: Result<(), Refusal>) -> Reply
     ensures { result ≡ reply_to answer }
 {
     match answer {
-        Answer::Accepted => plain_reply(0, 0),
-        Answer::Refused(number, place) => plain_reply(number, place),
+        Ok(()) => counts_reply(0, 0, 0),
+        Err(refusal) => refused_reply(refusal),
     }
 }
 
 // The reply with a refusal's number and place, and no counts.
-fn plain_reply(number: usize, place: usize) -> Reply
-    ensures { result ≡ plain_reply number place }
+fn refused_reply(refusal: Refusal) -> Reply
+    ensures { result ≡ refused_reply refusal }
 {
     Reply {
-        number,
-        place,
+        number: refusal.reason.number(),
+        place: refusal.place,
         c1: 0,
         c2: 0,
         c3: 0,
+    }
+}
+
+// The reply of a call that is accepted, with its counts.
+fn counts_reply(c1: usize, c2: usize, c3: usize) -> Reply
+    ensures { result ≡ counts_reply c1 c2 c3 }
+{
+    Reply {
+        number: 0,
+        place: 0,
+        c1,
+        c2,
+        c3,
     }
 }
 

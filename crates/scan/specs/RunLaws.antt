@@ -1,5 +1,5 @@
 -- Runs of bytes, and the reading byte by byte and over a run. Assumes nothing.
-use Rattle.std.specs.Prelude.{ℕ, zero, suc, ◌+◌, ◌≤◌, ◌<◌, ◌≡◌, refl, Bool, true, false, List, [], ◌∷◌, length, drop, get_or, ltb}
+use Rattle.std.specs.Prelude.{ℕ, zero, suc, ◌+◌, ◌≤◌, ◌<◌, max, ◌≡◌, refl, Bool, true, false, List, [], ◌∷◌, length, drop, get_or, ltb}
 use Rattle.std.proofs.Common.{add-zero, add-suc, suc-add, add-one, arith, sym, ap, ◌∙◌, ⊎_elim, drop_of_length-le, length-drop, drop-cons, drop-drop, get_or-drop, ltb-true, ltb-false}
 use Rattle.std.proofs.lemmas.Bool.{false≢true}
 use Rattle.trees.proofs.BoolLaws.{decide}
@@ -72,20 +72,20 @@ past_next t l p a e = rw e (λ h. rw⁻¹ (get_or-drop p l (lead t (drop p l)) 0
 
 -- ---- a run that is passed by
 
-module _ (t : ℕ → Bool) (l : List ℕ) (p : ℕ) where
-  pub skip_start : Skipping t l p p
-  skip_start = record { same = refl }
+module _ (t : ℕ → Bool) (l : List ℕ) (p i : ℕ) (s : Skipping t l p i) where
+  -- at a byte that passes, at one that does not, and at the end
+  pub skip_on : i < length l → true ≡ t (get_or l i 0) → Skipping t l p (i + 1)
+  skip_on h e = record { same = s.same ∙ past_more t l i h (sym e) }
 
-  module _ (i : ℕ) (s : Skipping t l p i) where
-    pub skip_past : length l ≤ i → i ≡ past t l p
-    skip_past h = sym (s.same ∙ past_end t l i h)
+  pub skip_end : false ≡ t (get_or l i 0) → i ≡ past t l p
+  skip_end e = sym (s.same ∙ past_stop t l i (sym e))
 
-    -- at a byte of which the test says r
-    pub skip_on : (r : Bool) → r ≡ t (get_or l i 0) → i < length l → r ≡ true → Skipping t l p (i + 1)
-    skip_on r e h y = record { same = s.same ∙ past_more t l i h (sym e ∙ y) }
-
-    pub skip_end : (r : Bool) → r ≡ t (get_or l i 0) → r ≡ false → i ≡ past t l p
-    skip_end r e y = sym (s.same ∙ past_stop t l i (sym e ∙ y))
+  pub skip_past : length l ≤ i → (p ≤ length l → i ≤ length l) → max p (length l) ≡ past t l p
+  skip_past h k = ⊎_elim
+      (λ q. let w = ltb-true p (length l) q in
+      let e : max p (length l) ≡ i = omega arith in e ∙ sym (s.same ∙ past_end t l i h))
+      (λ q. let w = ltb-false p (length l) q in
+      let e : max p (length l) ≡ p = omega arith in e ∙ sym (past_end t l p w)) (decide (ltb p (length l)))
 
 -- ---- the reading
 

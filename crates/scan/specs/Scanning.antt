@@ -1,6 +1,6 @@
 -- What stands at a place of a text: from there on the reading goes as from a later place and state, or stops (RULES
 -- 14).
-use Rattle.std.specs.Prelude.{ℕ, zero, suc, ◌+◌, ◌≤◌, ◌<◌, ◌≡◌, Bool, false, List, length, drop, get_or}
+use Rattle.std.specs.Prelude.{ℕ, zero, suc, ◌+◌, ◌≤◌, ◌<◌, ◌≡◌, Bool, false, List, length, drop, get_or, Result, Ok, Err}
 use Rattle.newick.specs.Tree.{Mark, Tree, Forest, Stack, depth}
 use Rattle.newick.specs.Tree.Tree.{leaf, pair}
 use Rattle.newick.specs.Tree.Stack.{opened}
@@ -10,15 +10,18 @@ use Rattle.newick.specs.Walk.{State, Parse, walk}
 use Rattle.newick.specs.Walk.State.{want, sample, closed, ended, measured}
 use Rattle.newick.specs.Walk.Parse.{stops}
 use Rattle.newick.specs.Grammar.{most_open, sample_bound}
-use Rattle.scan.specs.declared.Progress.{Progress}
-use Rattle.scan.specs.declared.Progress.TheVariants.{Reached, Stopped}
+use Rattle.scan.specs.declared.Stop.{Stop}
 use Rattle.scan.specs.declared.numbers.Number.{Number}
 use Rattle.scan.specs.declared.heads.Start.{Start}
-use Rattle.scan.specs.declared.heads.Start.TheVariants.{Leaf, Pair, Nothing}
+use Rattle.scan.specs.declared.heads.Start.TheVariants.{Leaf, Pair}
 
 -- the place past the run of bytes that pass the test, from a place on
 abbrev pub past : (ℕ → Bool) → List ℕ → ℕ → ℕ
 past t l p = p + lead t (drop p l)
+
+-- what calls of a test answer is what t says
+abbrev pub Tells : (ℕ → Bool) → (ℕ → Bool → Type 0) → Type 0
+Tells t post = (b : ℕ) (r : Bool) → post b r → r ≡ t b
 
 -- a run of bytes that pass the test is passed by up to i
 pub record Skipping (t : ℕ → Bool) (l : List ℕ) (p i : ℕ) : Type 0 where
@@ -71,12 +74,12 @@ pub record Followed (s : Stack → Tree → State) (l : List ℕ) (p e : ℕ) : 
   pub goes : (k : Stack) (t : Tree) → from l p (s k t) ≡ from l e (measured k t)
 
 -- it is read, or the reading stops
-abbrev pub Follows : (Stack → Tree → State) → List ℕ → ℕ → Progress → Type 0
-Follows s l p (Reached e) = Followed s l p e
-Follows s l p (Stopped q) = (k : Stack) (t : Tree) → from l p (s k t) ≡ stops q
+abbrev pub Follows : (Stack → Tree → State) → List ℕ → ℕ → Result ℕ Stop → Type 0
+Follows s l p (Ok e) = Followed s l p e
+Follows s l p (Err q) = (k : Stack) (t : Tree) → from l p (s k t) ≡ stops q.at
 
 -- what follows a subtree
-abbrev pub Tail : List ℕ → ℕ → Progress → Type 0
+abbrev pub Tail : List ℕ → ℕ → Result ℕ Stop → Type 0
 Tail l p r = Follows ended l p r
 
 -- after a closing bracket its mark, if there is one, and what may follow a subtree are read
@@ -88,9 +91,9 @@ pub record Marked (l : List ℕ) (p e : ℕ) : Type 0 where
   pub goes : (k : Stack) (f : Forest) → from l p (closed k f) ≡ from l e (measured k (pair f mark))
 
 -- what follows a closing bracket
-abbrev pub Closes : List ℕ → ℕ → Progress → Type 0
-Closes l p (Reached e) = Marked l p e
-Closes l p (Stopped q) = (k : Stack) (f : Forest) → from l p (closed k f) ≡ stops q
+abbrev pub Closes : List ℕ → ℕ → Result ℕ Stop → Type 0
+Closes l p (Ok e) = Marked l p e
+Closes l p (Err q) = (k : Stack) (f : Forest) → from l p (closed k f) ≡ stops q.at
 
 -- ---- how a subtree starts
 
@@ -114,7 +117,7 @@ abbrev pub Stuck : List ℕ → ℕ → ℕ → ℕ → Type 0
 Stuck l p d q = (k : Stack) → depth k + d ≡ most_open → from l p (want k) ≡ stops q
 
 -- how a subtree starts
-abbrev pub Starts : List ℕ → ℕ → ℕ → Start → Type 0
-Starts l p d (Leaf x) = Lone l p x
-Starts l p d (Pair a) = Opens l p d a
-Starts l p d (Nothing q) = Stuck l p d q
+abbrev pub Starts : List ℕ → ℕ → ℕ → Result Start Stop → Type 0
+Starts l p d (Ok (Leaf x)) = Lone l p x
+Starts l p d (Ok (Pair a)) = Opens l p d a
+Starts l p d (Err q) = Stuck l p d q.at

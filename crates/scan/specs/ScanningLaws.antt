@@ -1,5 +1,5 @@
 -- What the scans promise, from the places that they pass. Assumes nothing.
-use Rattle.std.specs.Prelude.{ℕ, zero, suc, ◌+◌, ◌*◌, ◌-◌, ◌≤◌, ◌<◌, ◌≡◌, true, false, List, length, drop, get_or}
+use Rattle.std.specs.Prelude.{ℕ, zero, suc, ◌+◌, ◌*◌, ◌-◌, ◌≤◌, ◌<◌, ◌≡◌, true, false, List, length, drop, get_or, Result, Ok, Err}
 use Rattle.std.proofs.Common.{arith, sym, ap, ◌∙◌}
 use Rattle.std.proofs.Math.Path.{refl}
 use Rattle.newick.specs.Lead.{run, mark_of}
@@ -10,11 +10,10 @@ use Rattle.newick.specs.Bytes.{colon_byte, opening_byte, point_byte, nought_byte
 use Rattle.newick.specs.Walk.{State, step, begun}
 use Rattle.newick.specs.Walk.State.{want, sample, closed, ended, measure, whole, point, part, measured}
 use Rattle.newick.specs.Grammar.{sample_bound}
-use Rattle.scan.specs.declared.Progress.{Progress}
-use Rattle.scan.specs.declared.Progress.TheVariants.{Reached, Stopped}
+use Rattle.scan.specs.declared.Stop.{Stop}
 use Rattle.scan.specs.declared.numbers.Number.{Number}
 use Rattle.scan.specs.declared.heads.Start.{Start}
-use Rattle.scan.specs.declared.heads.Start.TheVariants.{Leaf, Pair, Nothing}
+use Rattle.scan.specs.declared.heads.Start.TheVariants.{Leaf, Pair}
 use Rattle.scan.specs.Scanning.{past, from, room, Sampling, Sampled, Followed}
 use Rattle.scan.specs.Scanning.{Follows, Tail, Closes, Lone, Opens, Stuck, Starts}
 use Rattle.scan.specs.RunLaws.{passes_within, look_within, past_within, past_next, from_to}
@@ -24,14 +23,13 @@ use Rattle.scan.specs.StateLaws.{measure_stops, point_stops, want_opens, want_fu
 
 -- ---- a sample
 
-room_falls : (c x d : ℕ) → 0 < c → c ≤ 4 → x < room c → d < 10 → x * 10 + d < room (c - 1)
+room_falls : (c x d : ℕ) → c < 4 → x < room (suc c) → d < 10 → x * 10 + d < room c
 unfolding room
-room_falls zero x d a b h e = absurd (omega arith)
-room_falls (suc zero) x d a b h e = omega arith
-room_falls (suc (suc zero)) x d a b h e = omega arith
-room_falls (suc (suc (suc zero))) x d a b h e = omega arith
-room_falls (suc (suc (suc (suc zero)))) x d a b h e = omega arith
-room_falls (suc (suc (suc (suc (suc c))))) x d a b h e = absurd (omega arith)
+room_falls zero x d a h e = omega arith
+room_falls (suc zero) x d a h e = omega arith
+room_falls (suc (suc zero)) x d a h e = omega arith
+room_falls (suc (suc (suc zero))) x d a h e = omega arith
+room_falls (suc (suc (suc (suc c)))) x d a h e = absurd (omega arith)
 
 room_small : (c x : ℕ) → x < room c → x < sample_bound
 unfolding room
@@ -72,14 +70,14 @@ module _ (l : List ℕ) (p x i left : ℕ) (s : Sampling l p x i left) where
   sampling_small = room_small left x s.small
 
   -- a digit more
-  pub sampling_on : (d : ℕ) → 0 < left → is_digit (get_or l i 0) ≡ true → d ≡ get_or l i 0 - nought_byte
-      → Sampling l p (x * 10 + d) (i + 1) (left - 1)
-  sampling_on d h e f = let w = passes_within is_digit l i refl e in record {
+  pub sampling_on : (d c : ℕ) → left ≡ c + 1 → is_digit (get_or l i 0) ≡ true → d ≡ get_or l i 0 - nought_byte
+      → Sampling l p (x * 10 + d) (i + 1) c
+  sampling_on d c h e f = let w = passes_within is_digit l i refl e in let z : left ≡ suc c = omega arith in record {
     later = omega (arith, s.later);
     within = omega (arith, w);
     few = omega (arith, s.few);
-    small = room_falls left x d h s.few s.small (omega (arith, digit_range (get_or l i 0) e));
-    goes = λ k. s.goes k ∙ sample_longer l i x left d k w e f h;
+    small = room_falls c x d (omega (arith, s.few)) (rw z at s.small) (omega (arith, digit_range (get_or l i 0) e));
+    goes = λ k. s.goes k ∙ ap (λ (j : ℕ). from l i (sample k x j)) z ∙ sample_longer l i x c d k w e f;
   }
 
   -- no digit more
@@ -91,13 +89,13 @@ module _ (l : List ℕ) (p x i left : ℕ) (s : Sampling l p x i left) where
     goes = λ k. s.goes k ∙ sample_ended l i x left k (λ h. e);
   }
 
-  pub sampling_full : left ≡ 0 → Sampled l p (record { value = x; end = i })
-  sampling_full z = record {
+  pub sampling_full : (e : ℕ) → left ≡ 0 → e ≡ i → Sampled l p (record { value = x; end = e })
+  sampling_full e z q = rw q (record {
     later = s.later;
     within = s.within;
     small = sampling_small;
     goes = λ k. s.goes k ∙ ap (λ (j : ℕ). from l i (sample k x j)) z ∙ sample_full l i x k;
-  }
+  })
 
 -- ---- what follows a subtree
 
@@ -113,22 +111,22 @@ followed_by s l p a e h w f g = record {
 }
 
 -- from an earlier place and state
-follows_from : (s s' : Stack → Tree → State) (l : List ℕ) (p q : ℕ) (r : Progress) → p ≤ q
+follows_from : (s s' : Stack → Tree → State) (l : List ℕ) (p q : ℕ) (r : Result ℕ Stop) → p ≤ q
     → ((k : Stack) (t : Tree) → from l p (s k t) ≡ from l q (s' k t)) → Follows s' l q r → Follows s l p r
-follows_from s s' l p q (Reached e) h f g = record {
+follows_from s s' l p q (Ok e) h f g = record {
   later = omega (arith, g.later);
   within = g.within;
   fresh = g.fresh;
   goes = λ k t. f k t ∙ g.goes k t;
 }
-follows_from s s' l p q (Stopped i) h f g = λ k t. f k t ∙ g k t
+follows_from s s' l p q (Err i) h f g = λ k t. f k t ∙ g k t
 
 module _ (l : List ℕ) (p a : ℕ) (e : a ≡ past is_digit l p) where
   -- behind the point, at place p
-  pub fraction_none : a ≡ p → Follows point l p (Stopped p)
+  pub fraction_none : a ≡ p → Follows point l p (Err (record { at = p }))
   fraction_none z = λ k t. point_stops l p k t (past_next is_digit l p p (sym z ∙ e))
 
-  pub fraction_some : (b : ℕ) → (a ≡ p → ⊥) → p ≤ length l → b ≡ past is_blank l a → Follows point l p (Reached b)
+  pub fraction_some : (b : ℕ) → (a ≡ p → ⊥) → p ≤ length l → b ≡ past is_blank l a → Follows point l p (Ok b)
   unfolding step
   fraction_some b n h f = followed_by point l p a b (omega (arith, e)) (rw e (past_within is_digit l p h)) f
       (λ k t. digits_on l p a (point k t) (part k t) (λ d. refl) (λ d. refl) e n ∙ part_measured l a k t (past_next is_digit l p a e))
@@ -139,7 +137,7 @@ module _ (l : List ℕ) (p a b : ℕ) (e : a ≡ past is_blank l p) (f : b ≡ p
   to_number k t = blanks_on l p a (measure k t) refl e
 
   -- behind the colon, at place p
-  pub length_none : b ≡ a → Follows measure l p (Stopped a)
+  pub length_none : b ≡ a → Follows measure l p (Err (record { at = a }))
   length_none z = λ k t. to_number k t ∙ measure_stops l a k t (past_next is_blank l p a e) (past_next is_digit l a a (sym z ∙ f))
 
   module _ (n : b ≡ a → ⊥) (h : p ≤ length l) where
@@ -150,11 +148,11 @@ module _ (l : List ℕ) (p a b : ℕ) (e : a ≡ past is_blank l p) (f : b ≡ p
     unfolding step
     to_whole k t = to_number k t ∙ digits_on l a b (measure k t) (whole k t) (λ d. refl) (λ d. refl) f n
 
-    pub length_whole : (c : ℕ) → (get_or l b 0 ≡ point_byte → ⊥) → c ≡ past is_blank l b → Follows measure l p (Reached c)
+    pub length_whole : (c : ℕ) → (get_or l b 0 ≡ point_byte → ⊥) → c ≡ past is_blank l b → Follows measure l p (Ok c)
     length_whole c g i = followed_by measure l p b c (omega (arith, e, f)) number_within i
         (λ k t. to_whole k t ∙ whole_measured l b k t (past_next is_digit l a b f) g)
 
-    pub length_part : (r : Progress) → get_or l b 0 ≡ point_byte → Follows point l (b + 1) r → Follows measure l p r
+    pub length_part : (r : Result ℕ Stop) → get_or l b 0 ≡ point_byte → Follows point l (b + 1) r → Follows measure l p r
     unfolding step kind_of
     length_part r g i = follows_from measure point l p (b + 1) r (omega (arith, e, f))
         (λ k t. to_whole k t ∙ from_to l b (whole k t) (point k t) (look_within l b point_byte g (omega arith)) (rw g)) i
@@ -164,7 +162,7 @@ module _ (l : List ℕ) (p a : ℕ) (e : a ≡ past is_blank l p) where
   unfolding step
   to_tail k t = blanks_on l p a (ended k t) refl e
 
-  pub tail_none : p ≤ length l → (get_or l a 0 ≡ colon_byte → ⊥) → Tail l p (Reached a)
+  pub tail_none : p ≤ length l → (get_or l a 0 ≡ colon_byte → ⊥) → Tail l p (Ok a)
   tail_none h n = record {
     later = omega (arith, e);
     within = rw e (past_within is_blank l p h);
@@ -172,7 +170,7 @@ module _ (l : List ℕ) (p a : ℕ) (e : a ≡ past is_blank l p) where
     goes = λ k t. to_tail k t ∙ ended_measured l a k t (past_next is_blank l p a e) n;
   }
 
-  pub tail_length : (r : Progress) → get_or l a 0 ≡ colon_byte → Follows measure l (a + 1) r → Tail l p r
+  pub tail_length : (r : Result ℕ Stop) → get_or l a 0 ≡ colon_byte → Follows measure l (a + 1) r → Tail l p r
   unfolding step kind_of
   tail_length r g i = follows_from ended measure l p (a + 1) r (omega (arith, e))
       (λ k t. to_tail k t ∙ from_to l a (ended k t) (measure k t) (look_within l a colon_byte g (omega arith)) (rw g)) i
@@ -183,21 +181,21 @@ module _ (l : List ℕ) (p a b : ℕ) (e : a ≡ past is_blank l p) (f : b ≡ p
   unfolding step
   to_ended k g = blanks_on l p a (closed k g) refl e ∙ rw f (digits_ended l a k g (past_next is_blank l p a e))
 
-  pub closes_by : (r : Progress) → Tail l b r → Closes l p r
-  closes_by (Reached c) h = record {
+  pub closes_by : (r : Result ℕ Stop) → Tail l b r → Closes l p r
+  closes_by (Ok c) h = record {
     later = omega (arith, e, f, h.later);
     within = h.within;
     fresh = h.fresh;
     mark = mark_of (run is_digit (drop a l));
     goes = λ k g. to_ended k g ∙ h.goes k (pair g (mark_of (run is_digit (drop a l))));
   }
-  closes_by (Stopped c) h = λ k g. to_ended k g ∙ h k (pair g (mark_of (run is_digit (drop a l))))
+  closes_by (Err c) h = λ k g. to_ended k g ∙ h k (pair g (mark_of (run is_digit (drop a l))))
 
 -- ---- how a subtree starts
 
 module _ (l : List ℕ) (p : ℕ) (x : Number) (s : Sampled l p x) where
   -- a sample and its tail
-  pub leaf_by : (e : ℕ) → Tail l x.end (Reached e) → Lone l p (record { value = x.value; end = e })
+  pub leaf_by : (e : ℕ) → Tail l x.end (Ok e) → Lone l p (record { value = x.value; end = e })
   leaf_by e h = record {
     later = omega (arith, s.later, h.later);
     within = h.within;
@@ -206,7 +204,7 @@ module _ (l : List ℕ) (p : ℕ) (x : Number) (s : Sampled l p x) where
     goes = λ k. s.goes k ∙ h.goes k (leaf x.value);
   }
 
-  pub leaf_stops : (d q : ℕ) → Tail l x.end (Stopped q) → Stuck l p d q
+  pub leaf_stops : (d : ℕ) (q : Stop) → Tail l x.end (Err q) → Stuck l p d q.at
   leaf_stops d q h = λ k u. s.goes k ∙ h k (leaf x.value)
 
 module _ (l : List ℕ) (p a d : ℕ) (e : a ≡ past is_blank l p) where
@@ -214,21 +212,21 @@ module _ (l : List ℕ) (p a d : ℕ) (e : a ≡ past is_blank l p) where
   unfolding step
   to_want k = blanks_on l p a (want k) refl e
 
-  pub starts_leaf : (r : Start) → Starts l a d r → Starts l p d r
-  starts_leaf (Leaf x) s = record {
+  pub starts_leaf : (r : Result Start Stop) → Starts l a d r → Starts l p d r
+  starts_leaf (Ok (Leaf x)) s = record {
     later = omega (arith, e, s.later);
     within = s.within;
     fresh = s.fresh;
     small = s.small;
     goes = λ k. to_want k ∙ s.goes k;
   }
-  starts_leaf (Pair b) s = record {
+  starts_leaf (Ok (Pair b)) s = record {
     later = omega (arith, e, s.later);
     within = s.within;
     some = s.some;
     goes = λ k u. to_want k ∙ s.goes k u;
   }
-  starts_leaf (Nothing q) s = λ k u. to_want k ∙ s k u
+  starts_leaf (Err q) s = λ k u. to_want k ∙ s k u
 
   pub starts_nothing : (b : ℕ) → b ≡ get_or l a 0 → is_digit b ≡ false → (b ≡ opening_byte → ⊥) → Stuck l p d a
   starts_nothing b f g h = λ k u. to_want k ∙ want_stops l a k (past_next is_blank l p a e) (λ i. ap is_digit (sym f) ∙ g) (λ i. h (f ∙ i))

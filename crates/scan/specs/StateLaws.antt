@@ -1,5 +1,5 @@
 -- The states of the reading at the bytes that a scan looks for: which go on alike, which go on over a run, which stop. Assumes nothing.
-use Rattle.std.specs.Prelude.{ℕ, zero, suc, ◌+◌, ◌*◌, ◌-◌, ◌≤◌, ◌<◌, ◌≡◌, refl, Bool, true, false, List, [], ◌∷◌, length, drop, get_or, ltb}
+use Rattle.std.specs.Prelude.{ℕ, suc, ◌+◌, ◌*◌, ◌-◌, ◌≤◌, ◌<◌, ◌≡◌, refl, Bool, true, false, List, [], ◌∷◌, length, drop, get_or, ltb}
 use Rattle.std.proofs.Common.{add-zero, add-suc, suc-add, add-one, arith, sym, ap, ◌∙◌, ⊎_elim, drop_of_length-le, drop-cons, drop-drop, ltb-true, ltb-false, lt-ltb, le-ltb}
 use Rattle.std.proofs.lemmas.Bool.{false≢true}
 use Rattle.trees.proofs.BoolLaws.{decide}
@@ -199,10 +199,8 @@ pub sample_begins : (l : List ℕ) (a f : ℕ) (k : Stack) → a < length l → 
 unfolding step
 sample_begins l a f k h e d = rw d (from_to l a (want k) (begun k (get_or l a 0 - nought_byte)) h (rw (kind_digit (get_or l a 0) e)))
 
-pub sample_longer : (l : List ℕ) (i x c d : ℕ) (k : Stack) → i < length l → is_digit (get_or l i 0) ≡ true → d ≡ get_or l i 0 - nought_byte → 0 < c
-    → from l i (sample k x c) ≡ from l (i + 1) (sample k (x * 10 + d) (c - 1))
+pub sample_longer : (l : List ℕ) (i x c d : ℕ) (k : Stack) → i < length l → is_digit (get_or l i 0) ≡ true → d ≡ get_or l i 0 - nought_byte
+    → from l i (sample k x (suc c)) ≡ from l (i + 1) (sample k (x * 10 + d) c)
 unfolding step longer
-sample_longer l i x zero d k h e g n = absurd (omega arith)
-sample_longer l i x (suc c) d k h e g n =
-    rw g (from_to l i (sample k x (suc c)) (sample k (x * 10 + (get_or l i 0 - nought_byte)) c) h (rw (kind_digit (get_or l i 0) e))
-    ∙ ap (λ (j : ℕ). from l (i + 1) (sample k (x * 10 + (get_or l i 0 - nought_byte)) j)) (let z : c ≡ suc c - 1 = omega arith in z))
+sample_longer l i x c d k h e g =
+    rw g (from_to l i (sample k x (suc c)) (sample k (x * 10 + (get_or l i 0 - nought_byte)) c) h (rw (kind_digit (get_or l i 0) e)))

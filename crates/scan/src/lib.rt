@@ -12,9 +12,8 @@ pub use heads::{Start, starts};
 pub use numbers::Number;
 pub use tails::closes;
 
-// How far a reading has come: it reached a place, or it stopped at one, where no text of the form goes on.
-#[derive(Clone, Copy)]
-pub enum Progress {
-    Reached(usize),
-    Stopped(usize),
+// The place at which no text of the form goes on.
+#[derive(Clone, Copy, Debug, PartialEq, Eq)]
+pub struct Stop {
+    pub at: usize,
 }

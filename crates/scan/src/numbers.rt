@@ -3,7 +3,7 @@ ghost use Rattle.std.specs.Prelude.{◌≡◌, true, ◌<◌, length, get_or};
 ghost use Rattle.newick.specs.Bytes.{is_digit};
 ghost use Rattle.scan.specs.Scanning.{Sampled};
 
-use crate::bytes::{digit, is_digit, look};
+use crate::bytes::{digit, look};
 
 // How many digits may follow the first of a sample.
 const MORE_DIGITS: usize = 4;
@@ -12,7 +12,7 @@ const MORE_DIGITS: usize = 4;
 const TEN: usize = 10;
 
 // A sample, and the place past it.
-#[derive(Clone, Copy)]
+#[derive(Clone, Copy, Debug, PartialEq, Eq)]
 pub struct Number {
     pub value: usize,
     pub end: usize,
@@ -23,29 +23,20 @@ pub(crate) fn sample(s: &[u8], at: usize) -> Number
     requires { (at < length s.now) × (is_digit (get_or s.now at 0) ≡ true) }
     ensures { Sampled s.now at result }
 {
+    let first = at + 1;
     let mut value = digit(look(s, at));
-    let mut i = at + 1;
     if value == 0 {
-        return Number {
-            value: value,
-            end: i,
-        };
+        return Number { value, end: first };
     }
-    let mut left = MORE_DIGITS;
-    while 0 < left {
+    for i in first..first + MORE_DIGITS {
         let b = look(s, i);
-        if !is_digit(b) {
-            return Number {
-                value: value,
-                end: i,
-            };
+        if !b.is_ascii_digit() {
+            return Number { value, end: i };
         }
         value = value * TEN + digit(b);
-        i += 1;
-        left -= 1;
     }
     Number {
-        value: value,
-        end: i,
+        value,
+        end: first + MORE_DIGITS,
     }
 }

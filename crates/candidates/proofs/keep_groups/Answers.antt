@@ -6,7 +6,3 @@ use Rattle.candidates.proofs.keep_groups.Goals as goal
 pub ranks-requires : goal.ranks-requires
 ranks-requires c =
     (standard_falls _ _ c.requires.0.first, refl, refl, refl)
-
-pub merge_carried-requires : goal.merge_carried-requires
-merge_carried-requires c =
-    (c.requires.0, c.ranks.ensures.0, c.ranks.ensures.0, c.requires.1, c.requires.2)

@@ -1,9 +1,7 @@
--- `scan::numbers::sample` has read the digits up to i, and knows how many may still come. Assumes nothing.
+-- `scan::numbers::sample` has read the digits up to i, and as many more may come as places are left. Assumes nothing.
+use Rattle.std.specs.Prelude.{◌-◌}
 use Rattle.scan.specs.Scanning.{Sampling}
 use Rattle.scan.proofs.numbers.sample.Given as goal
 
-abbrev pub invariant-loop-left : goal.invariant-loop-left
-invariant-loop-left l = Sampling l.s l.at l.value l.i l.left
-
-abbrev pub decreases-loop-left : goal.decreases-loop-left
-decreases-loop-left l = l.left
+abbrev pub invariant-loop-i : goal.invariant-loop-i
+invariant-loop-i l = Sampling l.s l.at l.value l.i (l.i-end - l.i)

@@ -1,8 +1,5 @@
 -- `scan::tails::branch_length` passes blanks, digits and what follows a point by, or stops. Assumes nothing.
 use mathlib.Core.Path.{sym, ◌∙◌}
-use native.Mathlib.Omega.{arith}
-use Rattle.newick.specs.Bytes.{point_byte}
-use Rattle.scan.specs.RunLaws.{look_within}
 use Rattle.scan.specs.ScanningLaws.{length_none, length_whole, length_part}
 use Rattle.scan.proofs.tails.branch_length.Goals as goal
 
@@ -14,22 +11,6 @@ pub returns-then-look-ne46 : goal.returns-then-look-ne46
 returns-then-look-ne46 c =
     length_whole _ _ _ _ c.skip_blanks-a.ensures c.skip_digits-b.ensures c.if-b-a.false c.requires _
     (λ e. c.if-look-ne46.true (c.look.ensures ∙ e)) c.skip_blanks.ensures
-
-pub overflow_add-b : goal.overflow_add-b
-overflow_add-b c =
-    omega (
-      arith,
-      look_within c.args.s.now c.skip_digits-b.result point_byte (sym c.look.ensures ∙ c.if-look-ne46.false)
-          (omega arith),
-    )
-
-pub fraction-requires : goal.fraction-requires
-fraction-requires c =
-    omega (
-      arith,
-      look_within c.args.s.now c.skip_digits-b.result point_byte (sym c.look.ensures ∙ c.if-look-ne46.false)
-          (omega arith),
-    )
 
 pub returns : goal.returns
 returns c =

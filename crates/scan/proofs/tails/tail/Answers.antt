@@ -1,22 +1,11 @@
 -- `scan::tails::tail` passes blanks by, and what follows a colon. Assumes nothing.
 use mathlib.Core.Path.{sym, ◌∙◌}
-use native.Mathlib.Omega.{arith}
-use Rattle.newick.specs.Bytes.{colon_byte}
-use Rattle.scan.specs.RunLaws.{look_within}
 use Rattle.scan.specs.ScanningLaws.{tail_none, tail_length}
 use Rattle.scan.proofs.tails.tail.Goals as goal
 
 pub returns-then-look-ne58 : goal.returns-then-look-ne58
 returns-then-look-ne58 c =
     tail_none _ _ _ c.skip_blanks-a.ensures c.requires (λ e. c.if-look-ne58.true (c.look.ensures ∙ e))
-
-pub overflow_add-a : goal.overflow_add-a
-overflow_add-a c =
-    omega (arith, look_within c.args.s.now c.skip_blanks-a.result colon_byte (sym c.look.ensures ∙ c.if-look-ne58.false) (omega arith))
-
-pub branch_length-requires : goal.branch_length-requires
-branch_length-requires c =
-    omega (arith, look_within c.args.s.now c.skip_blanks-a.result colon_byte (sym c.look.ensures ∙ c.if-look-ne58.false) (omega arith))
 
 pub returns : goal.returns
 returns c =

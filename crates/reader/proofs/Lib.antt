@@ -1,4 +1,0 @@
-pub mod Calls
-pub mod Walks
-pub mod Thin
-pub mod Room
