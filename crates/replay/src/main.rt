@@ -69,6 +69,7 @@ fn answer_next<R: Read, W: Write>(
 }
 
 // Answers the request with this head, unless a buffer is too long, and says whether it did.
+// From here on the parts of the room go one by one: no proof is made where two fields are lent at once behind a reference.
 fn answer_head<R: Read, W: Write>(
     input: &mut R,
     output: &mut W,
