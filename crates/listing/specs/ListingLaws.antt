@@ -55,7 +55,9 @@ handed_on t x h = let p = err_from_is_err_and t h in rw (p.1, p.2) refl
 pub told_stops : (a : Answer) (slot : ℕ) (z : Sizes) {x : Refused} (next : Listed) (w : List ℕ) → told_of a slot z ≡ Err x
     → (goes_on (Err x) w ≡ unless (verdict a) slot next) × Loaded (Err x) w
 told_stops (Ok _) slot z {x} next w e = let q : ◌≡◌ {A = ℕ} 0 1 = cc in absurd (omega arith)
-told_stops (Err r) slot z {x} next w e = (rw (← e) refl, tt)
+told_stops (Err r) slot z {x} next w e =
+    let q : record { why = r; slot = slot } ≡ x = cc in
+    (ap (λ (y : Refused). refusal (number_of y.why.reason) y.slot y.why.place) (sym q), tt)
 
 pub told_goes : (a : Answer) (slot : ℕ) (z : Sizes) {y : Sizes} → told_of a slot z ≡ Ok y → (verdict a ≡ accepted) × (y ≡ z)
 told_goes (Ok _) slot z e = (refl, cc)
@@ -101,7 +103,7 @@ listed_good bytes n k w a e l v = ap (listed_of bytes) e ∙ go a (v ∙ same)
 
 module _ (bytes : List ℕ) (z : Sizes) (w : List ℕ) (a : Answer) (e : file_of bytes ≡ Some z) (l : length w ≡ study_words)
     (o : verdict a ≡ (opened z.samples w).verdict) where
-  rest : Listed
+  abbrev rest : Listed
   rest = adds_and_reports z.samples z.runs (opened z.samples w).words (tabulate z.runs (slot_call bytes z.samples) 0) 0
 
   pub load_stops : {x : Refused} (v : List ℕ) → told_of a 0 z ≡ Err x → (goes_on (Err x) v ≡ listed bytes) × Loaded (Err x) v
@@ -185,8 +187,11 @@ unfolding nodes
 front_nodes n a h = get_or-take (row_words n) a 0 0 (omega arith)
 
 module _ {t : Told} {z : Sizes} (a s : List ℕ) (e : t ≡ Ok z) where
-  n : ℕ
+  abbrev n : ℕ
   n = z.samples
+
+  abbrev k : ℕ
+  k = z.runs
 
   pub ready_lines : lines_of (shows t a s) ≡ tree_lines n k (take (row_words n) a) (take (row_words n) s)
   ready_lines = ap (λ (u : Told). lines_of (shows u a s)) e

@@ -25,14 +25,15 @@ pub fn line_count(told: Result<Sizes, Refused>, agreed: &[u16], support: &[u16])
 }
 
 // Line i of a tree.
-fn tree_line(n: usize, k: usize, row: &[u16], support: &[u16], i: usize, out: &mut [u8]) -> usize
-    requires standard { Standard n row.now × (length support.now ≡ row_words n) }
-    requires i_in_bounds { (i < length (tree_lines n k row.now support.now)) × (line_bytes ≤ length out.old) }
-    ensures { Written (get_or (tree_lines n k row.now support.now) i []) out.old out.new result }
+fn tree_line(sizes: Sizes, row: &[u16], support: &[u16], i: usize, out: &mut [u8]) -> usize
+    requires standard { Standard sizes.samples row.now × (length support.now ≡ row_words sizes.samples) }
+    requires i_in_bounds { (i < length (tree_lines sizes.samples sizes.runs row.now support.now)) × (line_bytes ≤ length out.old) }
+    ensures { Written (get_or (tree_lines sizes.samples sizes.runs row.now support.now) i []) out.old out.new result }
 {
     if i == 0 {
-        return put_head(n, k, out);
+        return put_head(sizes.samples, sizes.runs, out);
     }
+    let n = sizes.samples;
     put_node(n, row, support, n + i - 1, out)
 }
 
@@ -48,9 +49,15 @@ pub fn put_line(
     ensures { Written (get_or (lines_of (shows told agreed.now support.now)) i []) out.old out.new result }
 {
     match told {
-        Ok(Sizes { samples: n, runs: k }) => {
-            tree_line(n, k, &agreed[..2 * n], &support[..2 * n], i, out)
+        Ok(sizes) => {
+            let w = 2 * sizes.samples;
+            tree_line(sizes, &agreed[..w], &support[..w], i, out)
         }
-        Err(Refused { why, slot }) => put_refusal(why.reason.number(), slot, why.place, out),
+        Err(refused) => put_refusal(
+            refused.why.reason.number(),
+            refused.slot,
+            refused.why.place,
+            out,
+        ),
     }
 }

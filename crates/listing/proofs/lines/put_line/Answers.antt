@@ -15,17 +15,14 @@ few c =
     let a = c.args in
     ready_fits a.agreed.now a.support.now c.in-Ok.is c.requires.0
 
-pub overflow_mul-n : goal.overflow_mul-n
-overflow_mul-n c = omega (arith, few (search rules))
+pub overflow_mul-w : goal.overflow_mul-w
+overflow_mul-w c = omega (arith, few (goal.at.overflow_mul-w c).In-Ok)
 
 pub slice_bounds-tree_line-end : goal.slice_bounds-tree_line-end
-slice_bounds-tree_line-end c = simp length-take (omega (arith, few (search rules)))
-
-pub overflow_mul-n-in-Ok : goal.overflow_mul-n-in-Ok
-overflow_mul-n-in-Ok c = omega (arith, few (search rules))
+slice_bounds-tree_line-end c = simp length-take (omega (arith, few (goal.at.slice_bounds-tree_line-end c).In-Ok))
 
 pub slice_bounds-tree_line-end-in-Ok : goal.slice_bounds-tree_line-end-in-Ok
-slice_bounds-tree_line-end-in-Ok c = simp length-take (omega (arith, few (search rules)))
+slice_bounds-tree_line-end-in-Ok c = simp length-take (omega (arith, few (goal.at.slice_bounds-tree_line-end-in-Ok c).In-Ok))
 
 pub tree_line-requires-clause-standard : goal.tree_line-requires-clause-standard
 tree_line-requires-clause-standard c =
@@ -40,7 +37,7 @@ tree_line-requires-clause-i_in_bounds c =
 pub returns-in-Err : goal.returns-in-Err
 returns-in-Err c =
     let a = c.args in
-    rw (refused_line a.i a.agreed.now a.support.now c.in-Err.is c.requires.1) c.put_refusal.ensures
+    rw (refused_line a.i a.agreed.now a.support.now c.in-Err.is c.requires.1, ← c.number.ensures) c.put_refusal.ensures
 
 pub returns-in-Ok : goal.returns-in-Ok
 returns-in-Ok c =

@@ -9,16 +9,16 @@ use Rattle.listing.proofs.lines.tree_line.Goals.{Start}
 use Rattle.listing.proofs.lines.tree_line.Goals as goal
 
 -- the line's number is below the number of lines, and those are fewer than the nodes
-some : (st : Start) → let a = st.args in (a.i < nodes a.row.now - a.n + 1) × (a.n < nodes a.row.now) × (nodes a.row.now < 1024)
+some : (st : Start) → let a = st.args in (a.i < nodes a.row.now - a.sizes.samples + 1) × (a.sizes.samples < nodes a.row.now) × (nodes a.row.now < 1024)
 some st =
     let a = st.args in
     let v = st.requires.standard.0.valid in
-    (rw (tree_count a.n a.k a.row.now a.support.now) at st.requires.i_in_bounds.0, v.low, omega (arith, v.high, v.most))
+    (rw (tree_count a.sizes.samples a.sizes.runs a.row.now a.support.now) at st.requires.i_in_bounds.0, v.low, omega (arith, v.high, v.most))
 
 pub returns-then-i-eq0 : goal.returns-then-i-eq0
 returns-then-i-eq0 c =
     let a = c.args in
-    rw (c.if-i-eq0.true, tree_first a.n a.k a.row.now a.support.now) c.put_head.ensures
+    rw (c.if-i-eq0.true, tree_first a.sizes.samples a.sizes.runs a.row.now a.support.now) c.put_head.ensures
 
 pub overflow_add-n : goal.overflow_add-n
 overflow_add-n c = omega (arith, some (search rules))
@@ -29,4 +29,4 @@ put_node-requires c = (c.requires.standard.0, c.requires.standard.1, omega (arit
 pub returns : goal.returns
 returns c =
     let a = c.args in
-    rw (tree_next a.n a.k a.row.now a.support.now a.i (omega (arith, c.if-i-eq0.false)) c.requires.i_in_bounds.0) c.put_node.ensures
+    rw (tree_next a.sizes.samples a.sizes.runs a.row.now a.support.now a.i (omega (arith, c.if-i-eq0.false)) c.requires.i_in_bounds.0) c.put_node.ensures

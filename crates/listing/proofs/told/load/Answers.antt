@@ -18,7 +18,9 @@ goes c =
     (sym c.told_of.ensures ∙ c.in_ok-told_of.was) c.«open».ensures.words
 
 pub returns-in_default : goal.returns-in_default
-returns-in_default c = record { words_after = ?; loaded = tt }
+returns-in_default c =
+    let e = listed_bad c.args.bytes.now (sym c.file_of.ensures ∙ c.in_default.is) in
+    record { words_after = rw c.new.ensures (sym e); loaded = tt }
 
 pub returns-in_err-told_of : goal.returns-in_err-told_of
 returns-in_err-told_of c =
