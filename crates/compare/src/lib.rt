@@ -13,7 +13,7 @@ ghost use Rattle.judge.specs.Verdicts.{verdict};
 ghost use Rattle.compare.specs.Comparisons.{counts_verdict, comparison};
 
 use judge::{Refusal, StandardRow, ValidRow};
-use mates::Chart;
+use mates::{Chart, NO_MATE, Places, mates};
 use passes::{TABLE, Table};
 use quick::check_row;
 use row::{check_first, renumber_valid};
@@ -33,7 +33,7 @@ fn mated(a: usize, m: usize, mate: &Table) -> usize
 {
     let mut found: usize = 0;
     for v in a..m {
-        if mate[v] != mates::NO_MATE {
+        if mate[v] != NO_MATE {
             found += 1;
         }
     }
@@ -46,7 +46,14 @@ fn common(a: StandardRow, b: StandardRow) -> usize
     requires { b.n ≡ a.n }
     ensures { result ≡ count (λ v. holds a.entry.n (group_at a.entry.n a.entry.row.now v) b.entry.row.now) (range (a.entry.n + 1) (nodes a.entry.row.now)) }
 {
-    let mate = mates::mates(&Chart::of(a), b);
+    let mut places = Places::EMPTY;
+    let mut mate: Table = [0; TABLE];
+    places.fill(a);
+    let chart = Chart {
+        reference: a,
+        places: &places,
+    };
+    mates(&chart, b, &mut mate);
     mated(a.n + 1, judge::nodes(a.row), &mate)
 }
 
