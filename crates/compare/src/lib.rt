@@ -41,7 +41,7 @@ fn mated(a: usize, m: usize, mate: &Table) -> usize
 }
 
 // How many nodes after the root of a standard row have a group that another holds.
-#[tactic(auto, using(passes::proofs::StandardRows::standard_long, passes::proofs::StandardRows::standard_few, passes::proofs::StandardRows::standard_most))]
+#[tactic(auto, using(passes::proofs::StandardRows::standard_rows))]
 fn common(a: StandardRow, b: StandardRow) -> usize
     requires { b.n ≡ a.n }
     ensures { result ≡ count (λ v. holds a.entry.n (group_at a.entry.n a.entry.row.now v) b.entry.row.now) (range (a.entry.n + 1) (nodes a.entry.row.now)) }
@@ -58,7 +58,7 @@ fn common(a: StandardRow, b: StandardRow) -> usize
 }
 
 // The counts of two standard rows over n samples: n + 1 groups of each are trivial.
-#[tactic(auto, using(passes::proofs::StandardRows::standard_long, passes::proofs::StandardRows::standard_most))]
+#[tactic(auto, using(passes::proofs::StandardRows::standard_rows))]
 fn counts(a: StandardRow, b: StandardRow) -> Comparison
     requires { b.n ≡ a.n }
     ensures { counts_verdict result ≡ compared a.entry.n a.entry.row.now b.entry.row.now }

@@ -83,7 +83,7 @@ fn advance(n: usize, m: usize, ranks: &Ranks, b: usize, k: usize) -> usize
 }
 
 // For each inner node of a chart's row its candidate in another row, by ranks that rise in both: one walk in lockstep.
-#[tactic(auto, using(passes::proofs::StandardRows::standard_long, passes::proofs::StandardRows::standard_few))]
+#[tactic(auto, using(passes::proofs::StandardRows::standard_rows))]
 fn candidates(chart: &Chart, row: StandardRow, other: &Ranks, mate: &mut Table)
     requires { (row.n ≡ chart.now.reference.n) × Ranked row.n row.row.now other.now.size other.now.low }
     ensures { Tabled (candidate_of chart.now.reference.n chart.now.reference.row.now row.entry.row.now) chart.now.reference.n
@@ -130,7 +130,7 @@ impl Beside<'_> {
     }
 
     // The candidate b of node a of the chart, where it is a node and fits.
-    #[tactic(auto, using(passes::proofs::StandardRows::standard_few))]
+    #[tactic(auto, using(passes::proofs::StandardRows::standard_rows))]
     fn confirm(&self, a: usize, b: u16) -> u16
         requires { a < table_words }
         ensures { result ≡ confirmed self.now.m b (fitting self.now.chart.now.reference.n (entry self.now.chart.now.places.now.ranks.size a)
@@ -146,7 +146,7 @@ impl Beside<'_> {
 }
 
 // The candidates that fit.
-#[tactic(auto, using(passes::proofs::StandardRows::standard_long, passes::proofs::StandardRows::standard_few))]
+#[tactic(auto, using(passes::proofs::StandardRows::standard_rows))]
 fn confirmations(beside: &Beside, mate: &mut Table)
     requires { Tabled (candidate_of beside.now.chart.now.reference.n beside.now.chart.now.reference.row.now beside.now.row.row.now)
         beside.now.chart.now.reference.n (nodes beside.now.chart.now.reference.row.now) mate.old }

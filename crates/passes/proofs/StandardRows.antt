@@ -24,6 +24,9 @@ module _ (n : ℕ) (r : List ℕ) (s : standard n r ≡ true) where
   pub standard_most : n ≤ most_samples
   standard_most = (standard_to n r s).valid.most
 
+-- for `using`: a function that holds such a row then needs no answers for its first word and its places in tables
+pub ruleset standard_rows = (standard_long, standard_few, standard_most)
+
 -- a row that is standard over its own samples, which are n
 pub standard_over : {n k : ℕ} {r : List ℕ} → standard k r ≡ true → k ≡ n → Standard n r
 standard_over {n} {k} {r} s e = rw e at (standard_to k r s)
