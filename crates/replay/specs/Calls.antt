@@ -6,8 +6,22 @@ use Rattle.compare.specs.declared.Comparison.{Comparison}
 use Rattle.compare.specs.declared.Comparison.TheVariants as comparison
 use Rattle.writer.specs.declared.calls.Written.{Written}
 use Rattle.writer.specs.declared.calls.Written.TheVariants as written
+use Rattle.replay.specs.declared.calls.Op.{Op}
+use Rattle.replay.specs.declared.calls.Op.TheVariants as op
 use Rattle.replay.specs.declared.calls.Head.{Head}
 use Rattle.replay.specs.declared.calls.Reply.{Reply}
+
+-- the number of a call
+abbrev pub op_number : Op → ℕ
+op_number op.Open = 1
+op_number op.Add = 2
+op_number op.Withdraw = 3
+op_number op.Report = 4
+op_number op.Judge = 5
+op_number op.Renumber = 6
+op_number op.Compare = 7
+op_number op.Read = 8
+op_number op.Write = 9
 
 -- a request's six words: the call, its two numbers, the lengths of its buffers
 abbrev pub head_of : List ℕ → Head
