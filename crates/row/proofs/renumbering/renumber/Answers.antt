@@ -16,7 +16,7 @@ returns-in_err-check_first c =
     }
 
 pub renumber_valid-requires : goal.renumber_valid-requires
-renumber_valid-requires c = both_given _ c.args.row.now c.args.out.now (sym c.in_ok-check_first.ensures)
+renumber_valid-requires c = (both_given _ c.args.row.now c.args.out.now (sym c.in_ok-check_first.ensures)).1
 
 pub returns : goal.returns
 unfolding renumbering
