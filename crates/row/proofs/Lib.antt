@@ -1,3 +1,4 @@
 pub mod Laws
 pub mod AnswerLaws
 pub mod MeasuredLaws
+pub mod ValidRows

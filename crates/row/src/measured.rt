@@ -27,6 +27,7 @@ fn take_in(v: usize, sample: u16, sizes: &mut Table, lows: &mut Table)
 }
 
 // Sample s, taken in at each node on its way up.
+#[tactic(auto, using(crate::proofs::ValidRows::valid_long, crate::proofs::ValidRows::valid_most, crate::proofs::ValidRows::valid_low))]
 fn climb(tree: ValidRow, s: usize, sizes: &mut Table, lows: &mut Table)
     requires { (s < tree.n) × TablesFrom tree.n tree.row.now (s + 1) sizes.old lows.old }
     ensures { TablesFrom tree.entry.n tree.entry.row.now s sizes.new lows.new }
@@ -42,6 +43,7 @@ fn climb(tree: ValidRow, s: usize, sizes: &mut Table, lows: &mut Table)
 
 impl<'a> Measured<'a> {
     // A valid row, measured: its samples are taken in from the last to the first.
+    #[tactic(auto, using(crate::proofs::ValidRows::valid_most))]
     pub fn of(tree: ValidRow<'a>) -> Measured<'a>
         ensures { result.tree ≡ tree.entry }
     {

@@ -2,6 +2,7 @@
 use mathlib.Core.Path.{sym, ◌∙◌}
 use Rattle.trees.specs.RowCalls.{renumbering}
 use Rattle.trees.proofs.RowCallLaws.{renumbering_refused}
+use Rattle.judge.proofs.KnownRows.{shown_valid}
 use Rattle.judge.proofs.Laws.{handed_on}
 use Rattle.row.proofs.AnswerLaws.{both_given, written}
 use Rattle.row.proofs.renumbering.renumber.Goals as goal
@@ -14,6 +15,10 @@ returns-in_err-check_first c =
       result_value = handed_on _ c.in_err-check_first.field-0.0 c.from_residual.ensures.1 ∙ e;
       out_after = sym (renumbering_refused _ c.args.row.now c.args.out.now _ _ (sym e));
     }
+
+pub invariant_of-renumber_valid : goal.invariant_of-renumber_valid
+invariant_of-renumber_valid c =
+    record { valid = shown_valid _ _ (both_given _ c.args.row.now c.args.out.now (sym c.in_ok-check_first.ensures)).0 }
 
 pub renumber_valid-requires : goal.renumber_valid-requires
 renumber_valid-requires c = (both_given _ c.args.row.now c.args.out.now (sym c.in_ok-check_first.ensures)).1
