@@ -79,8 +79,8 @@ fn counts_by(first: ValidRow, second: ValidRow, a: &mut [u16], b: &mut [u16]) ->
     requires { (second.n ≡ first.n) × (length a.old ≡ row_words first.n) × (length b.old ≡ row_words first.n) }
     ensures { counts_verdict result ≡ compared first.entry.n first.entry.row.now second.entry.row.now }
 {
-    renumber_valid(first.n, first.row, a);
-    renumber_valid(second.n, second.row, b);
+    renumber_valid(first, a);
+    renumber_valid(second, b);
     counts(
         StandardRow { n: first.n, row: a },
         StandardRow {

@@ -1,7 +1,6 @@
 // The lines of the listing (RULES 9.4 to 9.7), one by one.
 ghost use Rattle.std.specs.Prelude.{◌≡◌, [], ◌<◌, ◌≤◌, length, get_or};
 ghost use Rattle.trees.specs.Checks.{row_words};
-ghost use Rattle.trees.specs.Valid.{Standard};
 ghost use Rattle.text.specs.Lines.{tree_lines};
 ghost use Rattle.put.specs.Writing.{Written};
 ghost use Rattle.text.specs.Room.{line_bytes};
@@ -10,7 +9,7 @@ ghost use Rattle.listing.specs.Told.{shows, Printable};
 
 use crate::told::Refused;
 use file::Sizes;
-use judge::nodes;
+use judge::{StandardRow, nodes};
 use text::{put_head, put_node, put_refusal};
 
 // How many lines there are.
@@ -25,16 +24,15 @@ pub fn line_count(told: Result<Sizes, Refused>, agreed: &[u16], support: &[u16])
 }
 
 // Line i of a tree.
-fn tree_line(sizes: Sizes, row: &[u16], support: &[u16], i: usize, out: &mut [u8]) -> usize
-    requires standard { Standard sizes.samples row.now × (length support.now ≡ row_words sizes.samples) }
-    requires i_in_bounds { (i < length (tree_lines sizes.samples sizes.runs row.now support.now)) × (line_bytes ≤ length out.old) }
-    ensures { Written (get_or (tree_lines sizes.samples sizes.runs row.now support.now) i []) out.old out.new result }
+fn tree_line(tree: StandardRow, k: usize, support: &[u16], i: usize, out: &mut [u8]) -> usize
+    requires support_words { length support.now ≡ row_words tree.n }
+    requires i_in_bounds { (i < length (tree_lines tree.n k tree.row.now support.now)) × (line_bytes ≤ length out.old) }
+    ensures { Written (get_or (tree_lines tree.entry.n k tree.entry.row.now support.now) i []) out.old out.new result }
 {
     if i == 0 {
-        return put_head(sizes.samples, sizes.runs, out);
+        return put_head(tree.n, k, out);
     }
-    let n = sizes.samples;
-    put_node(n, row, support, n + i - 1, out)
+    put_node(tree, support, tree.n + i - 1, out)
 }
 
 // Line i.
@@ -50,8 +48,12 @@ pub fn put_line(
 {
     match told {
         Ok(sizes) => {
-            let w = 2 * sizes.samples;
-            tree_line(sizes, &agreed[..w], &support[..w], i, out)
+            let n = sizes.samples;
+            let tree = StandardRow {
+                n,
+                row: &agreed[..2 * n],
+            };
+            tree_line(tree, sizes.runs, &support[..2 * n], i, out)
         }
         Err(refused) => put_refusal(
             refused.why.reason.number(),

@@ -2,7 +2,6 @@
 ghost use Rattle.std.specs.Prelude.{◌≡◌, ◌∷◌, false, ◌+◌, ◌≤◌, ◌<◌, length};
 ghost use Rattle.std.proofs.Math.Seq.{paste};
 ghost use Rattle.trees.specs.Checks.{row_words};
-ghost use Rattle.trees.specs.Valid.{Valid};
 ghost use Rattle.trees.specs.Numbering.{renumbered};
 ghost use Rattle.runs.specs.Words.{samples, in_force, slot_words, slot_start, slot};
 ghost use Rattle.runs.specs.Formed.{Formed};
@@ -12,24 +11,26 @@ ghost use Rattle.runs.specs.Words.{full};
 
 use crate::header::{Header, ROW_OFFSET, in_force, samples, slot_words};
 use crate::search::slot_start;
+use judge::ValidRow;
 use std::ops::Range;
 
 // A row goes in at word `at`, in standard numbering.
-fn put_row(words: &mut [u16], n: usize, at: usize, row: &[u16])
-    requires { (at + row_words n ≤ length words.old) × Valid n row.now }
-    ensures { words.new ≡ paste words.old at (renumbered n row.now) (row_words n) }
+fn put_row(words: &mut [u16], at: usize, tree: ValidRow)
+    requires { at + row_words tree.n ≤ length words.old }
+    ensures { words.new ≡ paste words.old at (renumbered tree.entry.n tree.entry.row.now) (row_words tree.entry.n) }
 {
-    row::renumber_valid(n, row, &mut words[at..at + 2 * n]);
+    row::renumber_valid(tree, &mut words[at..at + 2 * tree.n]);
 }
 
 // A slot goes in at word `from`; the words from there up to `to` go up by its width.
-fn put_at(words: &mut [u16], n: usize, from: usize, to: usize, id: u16, row: &[u16])
-    requires { (from ≤ to) × (to + slot_words n ≤ length words.old) × Valid n row.now }
-    ensures { words.new ≡ put_at words.old from to (id ∷ renumbered n row.now) }
+#[tactic(auto, using(row::proofs::ValidRows::valid_most))]
+fn put_at(words: &mut [u16], from: usize, to: usize, id: u16, tree: ValidRow)
+    requires { (from ≤ to) × (to + slot_words tree.n ≤ length words.old) }
+    ensures { words.new ≡ put_at words.old from to (id ∷ renumbered tree.entry.n tree.entry.row.now) }
 {
-    words.copy_within(from..to, from + slot_words(n));
+    words.copy_within(from..to, from + slot_words(tree.n));
     words[from] = id;
-    put_row(words, n, from + ROW_OFFSET, row);
+    put_row(words, from + ROW_OFFSET, tree);
 }
 
 // The `width` words at `from` go; those after them up to `to` go down, and zeros follow.
@@ -55,14 +56,13 @@ fn span_of(words: &[u16], at: usize) -> Range<usize>
 
 // A run goes in as slot `at`, the later ones move up, and k is counted up.
 #[tactic(auto, using(runs::proofs::SlotLaws::formed_long))]
-pub fn put_run(words: &mut [u16], at: usize, id: u16, row: &[u16])
-    requires { Formed words.old × (at ≤ in_force words.old) × (full words.old ≡ false) × Valid (samples words.old) row.now }
-    ensures { words.new ≡ slot_put words.old at (slot (stores (samples words.old) id row.now)) }
+pub fn put_run(words: &mut [u16], at: usize, id: u16, tree: ValidRow)
+    requires { Formed words.old × (at ≤ in_force words.old) × (full words.old ≡ false) × (tree.n ≡ samples words.old) }
+    ensures { words.new ≡ slot_put words.old at (slot (stores (samples words.old) id tree.entry.row.now)) }
 {
-    let n = samples(words);
     let k = in_force(words);
     let span = span_of(words, at);
-    put_at(words, n, span.start, span.end, id, row);
+    put_at(words, span.start, span.end, id, tree);
     words[Header::IN_FORCE_AT] = (k + 1) as u16;
 }
 

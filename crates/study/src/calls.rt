@@ -1,6 +1,5 @@
 // Opening, adding and withdrawing. The inner calls ask for a well-formed study and do not look it over again.
 ghost use Rattle.std.specs.Prelude.{◌≡◌};
-ghost use Rattle.trees.specs.Valid.{Valid};
 ghost use Rattle.runs.specs.Words.{samples};
 ghost use Rattle.runs.specs.Formed.{Formed};
 ghost use Rattle.runs.specs.Calls.{opened, added, withdrawn};
@@ -11,7 +10,7 @@ use crate::checks::{
     identifier_free, identifier_given, identifier_in_force, room_given, room_left, run_given,
     study_given,
 };
-use judge::Refusal;
+use judge::{Refusal, ValidRow};
 use slots::{close_run, put_run, samples, start};
 
 // Opening a study over n samples, in words of any content (RULES 6.8).
@@ -25,14 +24,14 @@ pub fn open(n: usize, words: &mut [u16]) -> Result<(), Refusal>
 }
 
 // Adding a run whose row is valid: checks 11 and 12 (RULES 7.5), and the run stored.
-fn add_valid(words: &mut [u16], id: u16, row: &[u16]) -> Result<(), Refusal>
-    requires { Formed words.old × Valid (samples words.old) row.now }
-    ensures answer { verdict result ≡ (added_valid words.old id row.now).verdict }
-    ensures words { words.new ≡ (added_valid words.old id row.now).words }
+fn add_valid(words: &mut [u16], id: u16, tree: ValidRow) -> Result<(), Refusal>
+    requires { Formed words.old × (tree.n ≡ samples words.old) }
+    ensures answer { verdict result ≡ (added_valid words.old id tree.entry.row.now).verdict }
+    ensures words { words.new ≡ (added_valid words.old id tree.entry.row.now).words }
 {
     let at = identifier_free(words, id)?;
     room_left(words)?;
-    put_run(words, at, id, row);
+    put_run(words, at, id, tree);
     Ok(())
 }
 
@@ -42,8 +41,9 @@ pub fn add_formed(words: &mut [u16], id: u16, row: &[u16]) -> Result<(), Refusal
     ensures answer { verdict result ≡ (added words.old id row.now).verdict }
     ensures words { words.new ≡ (added words.old id row.now).words }
 {
-    run_given(samples(words), id, row)?;
-    add_valid(words, id, row)
+    let n = samples(words);
+    run_given(n, id, row)?;
+    add_valid(words, id, ValidRow { n, row })
 }
 
 // Withdrawing a run from a study that is known to be well formed.

@@ -2,7 +2,6 @@
 ghost use Rattle.std.specs.Prelude.{◌≡◌, [], ◌∷◌, ◌≤◌, length};
 ghost use Rattle.trees.specs.Checks.{accepted, ◌⊳◌, fewest_samples, most_samples, row_words, check1, check3, row_checks};
 ghost use Rattle.trees.specs.RowCalls.{check3_both};
-ghost use Rattle.trees.specs.Valid.{Valid};
 ghost use Rattle.newick.specs.RowText.{writing};
 ghost use Rattle.newick.specs.RowText.Wanted.{plain, with_words};
 ghost use Rattle.judge.specs.Verdicts.{verdict};
@@ -13,21 +12,21 @@ ghost use Rattle.writer.specs.Remaining.{room_outcome, row_outcome};
 
 use crate::lengths::text_length;
 use crate::texts::put_row;
-use judge::{Reason, Refusal};
+use judge::{Reason, Refusal, ValidRow};
 use quick::check_row;
 
 // A valid row: refused with 3 where its text is longer than the buffer, and else put at its front.
-fn write_valid(n: usize, row: &[u16], words: &[u16], text: &mut [u8]) -> Result<usize, Refusal>
-    requires { Valid n row.now × Supports n words.now }
+fn write_valid(tree: ValidRow, words: &[u16], text: &mut [u8]) -> Result<usize, Refusal>
+    requires { Supports tree.n words.now }
     ensures result_value { written_verdict result
-        ≡ (room_outcome (text_of n row.now words.now) text.old).verdict }
+        ≡ (room_outcome (text_of tree.entry.n tree.entry.row.now words.now) text.old).verdict }
     ensures text_after { text.new
-        ≡ (room_outcome (text_of n row.now words.now) text.old).words }
+        ≡ (room_outcome (text_of tree.entry.n tree.entry.row.now words.now) text.old).words }
 {
-    if text.len() < text_length(n, row, words) {
+    if text.len() < text_length(tree, words) {
         return Err(Refusal::new(Reason::Words, 0));
     }
-    Ok(put_row(n, row, words, text))
+    Ok(put_row(tree, words, text))
 }
 
 // A row of the right length: checks 5 to 10, and then its text.
@@ -39,7 +38,7 @@ fn write_row(n: usize, row: &[u16], words: &[u16], text: &mut [u8]) -> Result<us
         ≡ (row_outcome n row.now words.now text.old).words }
 {
     check_row(n, row)?;
-    write_valid(n, row, words, text)
+    write_valid(ValidRow { n, row }, words, text)
 }
 
 // Checks 1 and 3.

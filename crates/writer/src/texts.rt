@@ -1,6 +1,5 @@
 // Putting the text of a row, by recursion over its nodes, whose children stand in chains.
 ghost use Rattle.std.specs.Prelude.{◌≡◌, ◌+◌, ◌≤◌, length};
-ghost use Rattle.trees.specs.Valid.{Valid};
 ghost use Rattle.put.specs.Writing.{Put};
 ghost use Rattle.newick.specs.RowText.{root_of};
 ghost use Rattle.chains.specs.Kids.{Kids};
@@ -9,7 +8,7 @@ ghost use Rattle.writer.specs.Nesting.{behind, table_text};
 ghost use Rattle.writer.specs.Putting.{Supports, HasWord, Charted};
 
 use chains::Chains;
-use judge::{ROOT_MARK, nodes, parent};
+use judge::{ROOT_MARK, ValidRow, nodes, parent};
 use passes::TABLE;
 use put::{put_byte, put_number};
 
@@ -57,12 +56,12 @@ fn put_text(
 }
 
 // The root of a valid row.
-fn root(n: usize, row: &[u16]) -> usize
-    requires { Valid n row.now }
-    ensures { result ≡ root_of n row.now }
+#[tactic(auto, using(row::proofs::ValidRows::valid_long))]
+fn root(tree: ValidRow) -> usize
+    ensures { result ≡ root_of tree.entry.n tree.entry.row.now }
 {
-    for v in n..nodes(row) {
-        if parent(row, v) == ROOT_MARK {
+    for v in tree.n..nodes(tree.row) {
+        if parent(tree.row, v) == ROOT_MARK {
             return v;
         }
     }
@@ -70,31 +69,26 @@ fn root(n: usize, row: &[u16]) -> usize
 }
 
 // The text of a valid row whose children stand in the tables.
-fn put_whole(
-    n: usize,
-    row: &[u16],
-    chains: &Chains,
-    words: &[u16],
-    out: &mut [u8],
-) -> usize
-    requires { Valid n row.now × Kids n row.now chains.now.head chains.now.next × Supports n words.now
-        × (length (text_of n row.now words.now) ≤ length out.old) }
-    ensures { Put (text_of n row.now words.now) out.old 0 out.new result }
+#[tactic(auto, using(row::proofs::ValidRows::valid_long))]
+fn put_whole(tree: ValidRow, chains: &Chains, words: &[u16], out: &mut [u8]) -> usize
+    requires { Kids tree.n tree.row.now chains.now.head chains.now.next × Supports tree.n words.now
+        × (length (text_of tree.n tree.row.now words.now) ≤ length out.old) }
+    ensures { Put (text_of tree.entry.n tree.entry.row.now words.now) out.old 0 out.new result }
 {
-    let end = put_text(n, chains, words, root(n, row), nodes(row), out, 0);
+    let end = put_text(tree.n, chains, words, root(tree), nodes(tree.row), out, 0);
     put_byte(b';', out, end)
 }
 
 // The text of a valid row, put at the front.
-pub fn put_row(n: usize, row: &[u16], words: &[u16], out: &mut [u8]) -> usize
-    requires { Valid n row.now × Supports n words.now
-        × (length (text_of n row.now words.now) ≤ length out.old) }
-    ensures { Put (text_of n row.now words.now) out.old 0 out.new result }
+pub fn put_row(tree: ValidRow, words: &[u16], out: &mut [u8]) -> usize
+    requires { Supports tree.n words.now
+        × (length (text_of tree.n tree.row.now words.now) ≤ length out.old) }
+    ensures { Put (text_of tree.entry.n tree.entry.row.now words.now) out.old 0 out.new result }
 {
     let mut chains = Chains {
         head: [0; TABLE],
         next: [0; TABLE],
     };
-    chains.fill(n, row);
-    put_whole(n, row, &chains, words, out)
+    chains.fill(tree);
+    put_whole(tree, &chains, words, out)
 }

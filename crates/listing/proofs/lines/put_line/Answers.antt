@@ -3,6 +3,7 @@ use Prim.Native.Nat.{◌≤◌, ◌<◌}
 use native.Mathlib.Omega.{arith}
 use lib.ListN.{length, length-take}
 use Rattle.trees.specs.Checks.{most_samples, row_words}
+use Rattle.trees.proofs.StandardLaws.{standard_from}
 use Rattle.listing.specs.ListingLaws.{refused_line, ready_lines, ready_standard, ready_fits}
 use borrow.Author.Rules.{rules}
 use Rattle.listing.proofs.lines.put_line.Goals.{In-Ok}
@@ -24,10 +25,14 @@ slice_bounds-tree_line-end c = simp length-take (omega (arith, few (goal.at.slic
 pub slice_bounds-tree_line-end-in-Ok : goal.slice_bounds-tree_line-end-in-Ok
 slice_bounds-tree_line-end-in-Ok c = simp length-take (omega (arith, few (goal.at.slice_bounds-tree_line-end-in-Ok c).In-Ok))
 
-pub tree_line-requires-clause-standard : goal.tree_line-requires-clause-standard
-tree_line-requires-clause-standard c =
+pub invariant_of-tree : goal.invariant_of-tree
+invariant_of-tree c =
     let a = c.args in
-    (ready_standard a.agreed.now a.support.now c.in-Ok.is c.requires.0, simp length-take (omega (arith, few (goal.at.tree_line-requires-clause-standard c).In-Ok)))
+    record { standard = standard_from _ _ (ready_standard a.agreed.now a.support.now c.in-Ok.is c.requires.0) }
+
+pub tree_line-requires-clause-support_words : goal.tree_line-requires-clause-support_words
+tree_line-requires-clause-support_words c =
+    simp length-take (omega (arith, few (goal.at.tree_line-requires-clause-support_words c).In-Ok))
 
 pub tree_line-requires-clause-i_in_bounds : goal.tree_line-requires-clause-i_in_bounds
 tree_line-requires-clause-i_in_bounds c =

@@ -10,8 +10,7 @@ put_at-requires c =
     let order = slot_order (samples w) c.args.at (in_force w) c.requires.1 in
     let room = next_fits w c.requires.0 c.requires.2 in (
       omega (arith, c.span_of-span.ensures, order),
-      rw (c.span_of-span.ensures.1, c.samples-n.ensures) room.1,
-      rw c.samples-n.ensures c.requires.3,
+      rw (c.span_of-span.ensures.1, c.requires.3) room.1,
     )
 
 pub overflow_cast-words : goal.overflow_cast-words

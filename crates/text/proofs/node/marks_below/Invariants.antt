@@ -6,4 +6,4 @@ use Rattle.text.specs.Marks.{Marked, mark_count}
 use Rattle.text.proofs.node.marks_below.Given as goal
 
 abbrev pub invariant-loop-u : goal.invariant-loop-u
-invariant-loop-u l = (l.v < l.u) × (length l.marks ≡ mark_count) × Marked l.n l.row l.v l.u l.marks
+invariant-loop-u l = (l.v < l.u) × (length l.marks ≡ mark_count) × Marked l.tree.n l.tree.row.now l.v l.u l.marks
