@@ -24,15 +24,20 @@ pub struct Chart {
 }
 
 impl Chart {
-    // The chart of a reference row.
-    pub fn of(n: usize, reference: &[u16]) -> Chart
+    // Room for the chart of a row.
+    pub const EMPTY: Chart = Chart {
+        ranks: Ranks::EMPTY,
+        start: [0; TABLE],
+    };
+
+    // That of a reference row.
+    pub fn fill(&mut self, n: usize, reference: &[u16])
         requires { Standard n reference.now }
-        ensures { Tables n reference.now result.ranks.size result.ranks.low result.start }
+        ensures { Tables n reference.now self.new.ranks.size self.new.ranks.low self.new.start }
     {
         let mut off: Table = [0; TABLE];
-        let ranks = Ranks::with_offsets(n, reference, &mut off);
-        let start = starts(n, reference, &off);
-        Chart { ranks, start }
+        self.ranks.fill_with_offsets(n, reference, &mut off);
+        starts(n, reference, &off, &mut self.start);
     }
 }
 
@@ -41,6 +46,26 @@ impl Chart {
 pub struct Ends {
     pub first: Table,
     pub last: Table,
+}
+
+impl Ends {
+    // Room for the ends of a row's groups.
+    pub const EMPTY: Ends = Ends {
+        first: [0; TABLE],
+        last: [0; TABLE],
+    };
+
+    // Those of a row's groups.
+    pub fn fill(&mut self, n: usize, row: &[u16], start: &Table)
+        requires { Falls n row.now × Keys n start.now }
+        ensures { Tabled (least_at n row.now (entry start.now)) 0 (nodes row.now) self.new.first
+            × Tabled (least_at n row.now (from_end n (entry start.now))) 0 (nodes row.now) self.new.last }
+    {
+        let mut backward: Table = [0; TABLE];
+        all_from_end(n, start, &mut backward);
+        least(n, row, start, &mut self.first);
+        least(n, row, &backward, &mut self.last);
+    }
 }
 
 // The first node from b on whose rank is k or more, or else m.
@@ -143,36 +168,22 @@ fn all_from_end(n: usize, start: &Table, t: &mut Table)
     }
 }
 
-// The ends of each node's group, by the places of a reference row.
-pub fn spread(n: usize, row: &[u16], start: &Table) -> Ends
-    requires { Falls n row.now × Keys n start.now }
-    ensures { Tabled (least_at n row.now (entry start.now)) 0 (nodes row.now) result.first
-        × Tabled (least_at n row.now (from_end n (entry start.now))) 0 (nodes row.now) result.last }
-{
-    let mut backward: Table = [0; TABLE];
-    all_from_end(n, start, &mut backward);
-    Ends {
-        first: least(n, row, start),
-        last: least(n, row, &backward),
-    }
-}
-
 // For each inner node of a reference row, with its chart, the node of another row that has the same group, or NO_MATE.
-pub fn mates(n: usize, reference: &[u16], chart: &Chart, row: &[u16]) -> Table
+pub fn mates(n: usize, reference: &[u16], chart: &Chart, row: &[u16], mate: &mut Table)
     requires { Standard n reference.now × Tables n reference.now chart.now.ranks.size chart.now.ranks.low chart.now.start
         × Standard n row.now }
-    ensures { Tabled (mate_of n reference.now row.now) n (nodes reference.now) result }
+    ensures { Tabled (mate_of n reference.now row.now) n (nodes reference.now) mate.new }
 {
-    let mut mate: Table = [0; TABLE];
-    let ranks = Ranks::of(n, row);
-    candidates(n, reference, &chart.ranks, row, &ranks, &mut mate);
-    let ends = spread(n, row, &chart.start);
+    let mut ranks = Ranks::EMPTY;
+    let mut ends = Ends::EMPTY;
+    ranks.fill(n, row);
+    candidates(n, reference, &chart.ranks, row, &ranks, mate);
+    ends.fill(n, row, &chart.start);
     let beside = Beside {
         chart,
         nodes: nodes(row),
         ranks: &ranks,
         ends: &ends,
     };
-    confirmations(n, reference, row, &beside, &mut mate);
-    mate
+    confirmations(n, reference, row, &beside, mate);
 }

@@ -56,7 +56,8 @@ fn ranked(n: usize, row: &[u16]) -> bool
     requires { Falls n row.now }
     ensures { result ≡ ranked n row.now }
 {
-    let ranks = Ranks::of(n, row);
+    let mut ranks = Ranks::EMPTY;
+    ranks.fill(n, row);
     let last = nodes(row) - 1;
     (SMALLEST <= ranks.size[last]) & rising(n, last, &ranks)
 }

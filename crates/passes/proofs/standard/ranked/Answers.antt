@@ -9,9 +9,9 @@ rising-requires c = (
   c.requires.most,
   omega (arith, c.nodes-last.ensures, few _ _ c.requires),
   record
-      { le = λ v h. (ranked_most c.args.n c.args.row.now _ _ c.of-ranks.ensures).le v (omega (arith, c.nodes-last.ensures, c.requires.low)) },
+      { le = λ v h. (ranked_most c.args.n c.args.row.now _ _ c.fill.ensures).le v (omega (arith, c.nodes-last.ensures, c.requires.low)) },
 )
 
 pub returns : goal.returns
 returns c =
-    rw (c.rising.ensures, c.nodes-last.ensures) (ranked_is c.args.n c.args.row.now _ _ c.of-ranks.ensures (omega (arith, c.requires.low)))
+    rw (c.rising.ensures, c.nodes-last.ensures) (ranked_is c.args.n c.args.row.now _ _ c.fill.ensures (omega (arith, c.requires.low)))

@@ -1,6 +1,0 @@
--- `passes::pass::add_up` meets its contract: after `done` steps the table is that stage of the pass. Assumes nothing.
-use Rattle.passes.proofs.Loops.{Adding}
-use Rattle.passes.proofs.pass.add_up.Given as goal
-
-abbrev pub invariant-loop-done : goal.invariant-loop-done
-invariant-loop-done l = Adding l.n l.row l.done l.size l.off
