@@ -24,16 +24,20 @@ pub struct Chart {
 }
 
 impl Chart {
-    // The chart of a reference row.
-    pub fn of(n: usize, reference: &[u16]) -> Chart
+    // Room for the chart of a row.
+    pub const EMPTY: Chart = Chart {
+        ranks: Ranks::EMPTY,
+        start: [0; TABLE],
+    };
+
+    // That of a reference row.
+    pub fn fill(&mut self, n: usize, reference: &[u16])
         requires { Standard n reference.now }
-        ensures { Tables n reference.now result.ranks.size result.ranks.low result.start }
+        ensures { Tables n reference.now self.new.ranks.size self.new.ranks.low self.new.start }
     {
         let mut off: Table = [0; TABLE];
-        let mut start: Table = [0; TABLE];
-        let ranks = Ranks::with_offsets(n, reference, &mut off);
-        starts(n, reference, &off, &mut start);
-        Chart { ranks, start }
+        self.ranks.fill_with_offsets(n, reference, &mut off);
+        starts(n, reference, &off, &mut self.start);
     }
 }
 
@@ -44,19 +48,32 @@ pub struct Ends {
     pub last: Table,
 }
 
+impl Ends {
+    // Room for the ends of a row's groups.
+    pub const EMPTY: Ends = Ends {
+        first: [0; TABLE],
+        last: [0; TABLE],
+    };
+
+    // Those of a row's groups.
+    pub fn fill(&mut self, n: usize, row: &[u16], start: &Table)
+        requires { Falls n row.now × Keys n start.now }
+        ensures { Tabled (least_at n row.now (entry start.now)) 0 (nodes row.now) self.new.first
+            × Tabled (least_at n row.now (from_end n (entry start.now))) 0 (nodes row.now) self.new.last }
+    {
+        let mut backward: Table = [0; TABLE];
+        all_from_end(n, start, &mut backward);
+        least(n, row, start, &mut self.first);
+        least(n, row, &backward, &mut self.last);
+    }
+}
+
 // The first node from b on whose rank is k or more, or else m.
 fn advance(n: usize, m: usize, ranks: &Ranks, b: usize, k: usize) -> usize
     requires { (n ≤ most_samples) × (b ≤ m) × (m ≤ table_words) × Most n m ranks.now.size }
     ensures { result ≡ candidate (rank_in n ranks.now.size ranks.now.low) b m k }
 {
-    let mut x = b;
-    while x < m {
-        if k <= ranks.rank(n, x) {
-            return x;
-        }
-        x += 1;
-    }
-    m
+    (b..m).find(|&x| k <= ranks.rank(n, x)).unwrap_or(m)
 }
 
 // For each inner node of a reference row its candidate in another row, by ranks that rise in both: one walk in lockstep.
@@ -74,71 +91,62 @@ fn candidates(
 {
     let m = nodes(reference);
     let others = nodes(row);
-    let mut a = n;
     let mut b = n;
-    while a < m {
+    for a in n..m {
         let k = ranks.rank(n, a);
         b = advance(n, others, other, b, k);
         mate[a] = b as u16;
-        a += 1;
     }
 }
 
-// Whether a node has the group of another: its size, and its first and last place in the other's interval; the last is counted from the end.
-fn fitting(n: usize, size: u16, start: u16, other: u16, first: u16, last: u16) -> bool
-    requires { n ≤ most_samples }
-    ensures { result ≡ fitting n size start other first last }
-{
-    (size == other)
-        & ((start <= first) & (n <= usize::from(start) + usize::from(size) + usize::from(last)))
+// A row beside a chart: how many nodes it has, their ranks, and the ends of their groups by the chart's places.
+#[derive(Clone, Copy)]
+struct Beside<'a> {
+    chart: &'a Chart,
+    nodes: usize,
+    ranks: &'a Ranks,
+    ends: &'a Ends,
 }
 
-// The candidate b, where it is a node below m and fits a node of that size and start.
-fn confirm(
-    n: usize,
-    size: u16,
-    start: u16,
-    m: usize,
-    other: &Table,
-    first: &Table,
-    last: &Table,
-    b: u16,
-) -> u16
-    requires { (n ≤ most_samples) × (m ≤ table_words) }
-    ensures { result ≡ confirmed m b (fitting n size start (entry other.now b) (entry first.now b) (entry last.now b)) }
-{
-    let x = usize::from(b);
-    if x < m {
-        if fitting(n, size, start, other[x], first[x], last[x]) {
-            return b;
+impl Beside<'_> {
+    // Whether node b has the group of node a of the chart: its size, and its first and last place in the interval of a.
+    fn fits(&self, n: usize, a: usize, b: usize) -> bool
+        requires { (n ≤ most_samples) × (a < table_words) × (b < table_words) }
+        ensures { result ≡ fitting n (entry self.now.chart.now.ranks.size a) (entry self.now.chart.now.start a) (entry self.now.ranks.now.size b)
+            (entry self.now.ends.now.first b) (entry self.now.ends.now.last b) }
+    {
+        let size = self.chart.ranks.size[a];
+        let start = self.chart.start[a];
+        let end = usize::from(start) + usize::from(size);
+        (size == self.ranks.size[b])
+            & ((start <= self.ends.first[b]) & (n <= end + usize::from(self.ends.last[b])))
+    }
+
+    // The candidate b of node a of the chart, where it is a node and fits.
+    fn confirm(&self, n: usize, a: usize, b: u16) -> u16
+        requires { (n ≤ most_samples) × (a < table_words) × (self.now.nodes ≤ table_words) }
+        ensures { result ≡ confirmed self.now.nodes b (fitting n (entry self.now.chart.now.ranks.size a) (entry self.now.chart.now.start a)
+            (entry self.now.ranks.now.size b) (entry self.now.ends.now.first b) (entry self.now.ends.now.last b)) }
+    {
+        let x = usize::from(b);
+        if x < self.nodes && self.fits(n, a, x) {
+            b
+        } else {
+            NO_MATE
         }
     }
-    NO_MATE
 }
 
 // The candidates that fit.
-fn confirmations(
-    n: usize,
-    reference: &[u16],
-    size: &Table,
-    start: &Table,
-    row: &[u16],
-    other: &Table,
-    first: &Table,
-    last: &Table,
-    mate: &mut Table,
-)
-    requires { Standard n reference.now × Standard n row.now
-        × Spread n reference.now row.now size.now start.now other.now first.now last.now
+fn confirmations(n: usize, reference: &[u16], row: &[u16], beside: &Beside, mate: &mut Table)
+    requires { Standard n reference.now × Standard n row.now × (beside.now.nodes ≡ nodes row.now)
+        × Spread n reference.now row.now beside.now.chart.now.ranks.size beside.now.chart.now.start beside.now.ranks.now.size
+        beside.now.ends.now.first beside.now.ends.now.last
         × Tabled (candidate_of n reference.now row.now) n (nodes reference.now) mate.old }
     ensures { Tabled (mate_of n reference.now row.now) n (nodes reference.now) mate.new }
 {
-    let m = nodes(reference);
-    let others = nodes(row);
-    let mut a = n;
-    while a < m {
-        mate[a] = confirm(n, size[a], start[a], others, other, first, last, mate[a]);
-        a += 1;
+    for a in n..nodes(reference) {
+        mate[a] = beside.confirm(n, a, mate[a]);
     }
 }
 
@@ -155,50 +163,27 @@ fn all_from_end(n: usize, start: &Table, t: &mut Table)
     requires { (n ≤ most_samples) × Keys n start.now }
     ensures { Tabled (from_end n (entry start.now)) 0 n t.new }
 {
-    let mut s = 0;
-    while s < n {
+    for s in 0..n {
         t[s] = from_end(n, start[s]);
-        s += 1;
     }
 }
 
-// The ends of each node's group, by the places of a reference row.
-pub fn spread(n: usize, row: &[u16], start: &Table) -> Ends
-    requires { Falls n row.now × Keys n start.now }
-    ensures { Tabled (least_at n row.now (entry start.now)) 0 (nodes row.now) result.first
-        × Tabled (least_at n row.now (from_end n (entry start.now))) 0 (nodes row.now) result.last }
-{
-    let mut ends = Ends {
-        first: [0; TABLE],
-        last: [0; TABLE],
-    };
-    let mut backward: Table = [0; TABLE];
-    least(n, row, start, &mut ends.first);
-    all_from_end(n, start, &mut backward);
-    least(n, row, &backward, &mut ends.last);
-    ends
-}
-
 // For each inner node of a reference row, with its chart, the node of another row that has the same group, or NO_MATE.
-pub fn mates(n: usize, reference: &[u16], chart: &Chart, row: &[u16]) -> Table
+pub fn mates(n: usize, reference: &[u16], chart: &Chart, row: &[u16], mate: &mut Table)
     requires { Standard n reference.now × Tables n reference.now chart.now.ranks.size chart.now.ranks.low chart.now.start
         × Standard n row.now }
-    ensures { Tabled (mate_of n reference.now row.now) n (nodes reference.now) result }
+    ensures { Tabled (mate_of n reference.now row.now) n (nodes reference.now) mate.new }
 {
-    let mut mate: Table = [0; TABLE];
-    let other = Ranks::of(n, row);
-    candidates(n, reference, &chart.ranks, row, &other, &mut mate);
-    let ends = spread(n, row, &chart.start);
-    confirmations(
-        n,
-        reference,
-        &chart.ranks.size,
-        &chart.start,
-        row,
-        &other.size,
-        &ends.first,
-        &ends.last,
-        &mut mate,
-    );
-    mate
+    let mut ranks = Ranks::EMPTY;
+    let mut ends = Ends::EMPTY;
+    ranks.fill(n, row);
+    candidates(n, reference, &chart.ranks, row, &ranks, mate);
+    ends.fill(n, row, &chart.start);
+    let beside = Beside {
+        chart,
+        nodes: nodes(row),
+        ranks: &ranks,
+        ends: &ends,
+    };
+    confirmations(n, reference, row, &beside, mate);
 }

@@ -32,15 +32,7 @@ fn falling(n: usize, row: &[u16]) -> bool
     ensures { result ≡ falling n row.now }
 {
     let m = nodes(row);
-    let mut v = 0;
-    while v < m {
-        let p = parent(row, v);
-        if !rightful(n, m, v, p) {
-            return false;
-        }
-        v += 1;
-    }
-    true
+    (0..m).all(|v| rightful(n, m, v, parent(row, v)))
 }
 
 // Whether the words after those of the nodes are 0 (RULES 2.3).
@@ -59,14 +51,7 @@ fn rising(n: usize, last: usize, ranks: &Ranks) -> bool
     requires { (n ≤ most_samples) × (last < table_words) × Most n (last + 1) ranks.now.size }
     ensures { result ≡ rising (rank_in n ranks.now.size ranks.now.low) n last }
 {
-    let mut v = n;
-    while v < last {
-        if ranks.rank(n, v + 1) <= ranks.rank(n, v) {
-            return false;
-        }
-        v += 1;
-    }
-    true
+    (n..last).all(|v| ranks.rank(n, v) < ranks.rank(n, v + 1))
 }
 
 // Whether the ranks of the inner nodes rise, and the last of them has two samples.
@@ -74,7 +59,8 @@ fn ranked(n: usize, row: &[u16]) -> bool
     requires { Falls n row.now }
     ensures { result ≡ ranked n row.now }
 {
-    let ranks = Ranks::of(n, row);
+    let mut ranks = Ranks::EMPTY;
+    ranks.fill(n, row);
     let last = nodes(row) - 1;
     (SMALLEST <= ranks.size[last]) & rising(n, last, &ranks)
 }

@@ -25,9 +25,6 @@ in-range c =
     let m = nodes c.args.row.now in
     (ltb-true n m (and_l (ltb n m) (ltb m (row_words n)) (spanned c)), ltb-true m (row_words n) (and_r (ltb n m) (ltb m (row_words n)) (spanned c)))
 
-pub overflow_mul-n : goal.overflow_mul-n
-overflow_mul-n c = omega arith
-
 pub returns-then-not-n-m : goal.returns-then-not-n-m
 returns-then-not-n-m c =
     spans_decides c.args.n c.args.row.now c.requires.1 c.requires.2 (rw (← c.nodes-m.ensures) c.if-not-n-m.true)

@@ -1,7 +1,7 @@
--- `passes::pass::Ranks::with_offsets` meets its contract. Assumes nothing.
+-- `passes::pass::Ranks::fill_with_offsets` meets its contract. Assumes nothing.
 use Rattle.trees.specs.Tables.{own}
 use Rattle.trees.proofs.TableLaws.{tabled_keys, tabled_least}
-use Rattle.passes.proofs.pass.Ranks.with_offsets.Goals as goal
+use Rattle.passes.proofs.pass.Ranks.fill_with_offsets.Goals as goal
 
 pub least-requires : goal.least-requires
 least-requires c = (c.requires, tabled_keys c.args.n _ c.numbers.ensures)
