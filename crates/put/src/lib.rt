@@ -1,4 +1,5 @@
 // Bytes, texts and numbers put into a buffer at a place: each answers the place after what it put.
+// A struct of buffer and place would be no plainer: each call would lend it, and each promise name its two parts.
 #![tactic(auto)]
 
 ghost use Rattle.std.specs.Prelude.{◌≡◌, [], ◌∷◌, ◌+◌, ◌<◌, ◌≤◌, length};

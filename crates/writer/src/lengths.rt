@@ -38,6 +38,7 @@ fn node_bytes(n: usize, row: &[u16], words: &[u16], v: usize) -> usize
 }
 
 // The length of the text of a valid row, with the words of a support row or with none (RULES 14).
+// Where none are wanted `words` is empty: so the promise reads, which may not change.
 pub fn text_length(n: usize, row: &[u16], words: &[u16]) -> usize
     requires { Valid n row.now × Supports n words.now }
     ensures { result ≡ length (text_of n row.now words.now) }

@@ -19,15 +19,15 @@ use Rattle.writer.proofs.texts.+put_text.Goals as goal
 module _ (t : ℕ) where
   -- behind the opening bracket
   abbrev inner : Else-left-v t → List ℕ
-  inner c = let a = c.args in in_pair (table_child a.head.now a.next.now a.left a.n a.words.now) (kids_in a.head.now a.next.now a.v)
+  inner c = let a = c.args in in_pair (table_child a.chains.now.head a.chains.now.next a.left a.n a.words.now) (kids_in a.chains.now.head a.chains.now.next a.v)
 
   paired : (c : Else-left-v t) → let a = c.args in
-      table_text a.head.now a.next.now a.left a.n a.words.now a.v ≡ opening_byte ∷ inner c
+      table_text a.chains.now.head a.chains.now.next a.left a.n a.words.now a.v ≡ opening_byte ∷ inner c
   paired c = let a = c.args in nest_pair _ a.left a.n _ a.v c.if-left-v.false
 
   -- the two parts of a child's text
   abbrev bare : At-loop-c t → List ℕ
-  bare c = let a = c.args in table_text a.head.now a.next.now (a.left - 1) a.n a.words.now c.loop-c.c
+  bare c = let a = c.args in table_text a.chains.now.head a.chains.now.next (a.left - 1) a.n a.words.now c.loop-c.c
 
   abbrev mark : At-loop-c t → List ℕ
   mark c = let a = c.args in behind a.n (wanted_by a.words.now) c.loop-c.c

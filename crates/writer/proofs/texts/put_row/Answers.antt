@@ -4,4 +4,4 @@ use Rattle.writer.proofs.texts.put_row.Goals as goal
 pub put_whole-requires : goal.put_whole-requires
 put_whole-requires c =
     let pre = c.requires in
-    (pre.0, c.children_chained.ensures, pre.1, pre.2)
+    (pre.0, c.fill.ensures, pre.1, pre.2)
