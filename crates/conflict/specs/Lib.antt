@@ -5,4 +5,5 @@ pub mod Spans
 pub mod SpanLaws
 pub mod HullLaws
 pub mod Gathering
+pub mod Routes
 pub mod GatherLaws

@@ -18,7 +18,7 @@ ghost use Rattle.conflict.specs.Gathering.{Reached};
 use crate::paths::Trails;
 use crate::reach::{NOTHING, Reach, Reaches, Ways};
 use judge::nodes;
-use mates::{Chart, spread};
+use mates::{Chart, Ends};
 use passes::{TABLE, Table};
 
 // What each node of the reference, with its starts, reaches in the row.
@@ -26,8 +26,10 @@ fn reaches(n: usize, reference: &[u16], start: &Table, row: &[u16], reached: &mu
     requires { Standard n reference.now × Starts n reference.now (entry start.now) × Standard n row.now }
     ensures { Reached n reference.now row.now (entry start.now) reached.new }
 {
-    let ends = spread(n, row, start);
-    let trails = Trails::of(n, row);
+    let mut ends = Ends::EMPTY;
+    let mut trails = Trails::EMPTY;
+    ends.fill(n, row, start);
+    trails.fill(n, row);
     let ways = Ways {
         n,
         row,

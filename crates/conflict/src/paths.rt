@@ -22,20 +22,21 @@ pub struct Trails {
 }
 
 impl Trails {
-    // Those of a row.
-    pub fn of(n: usize, row: &[u16]) -> Trails
-        requires { Falls n row.now }
-        ensures { Paths n row.now (nodes row.now) result.head result.next }
+    // Room for the paths of a row: no node goes on.
+    pub const EMPTY: Trails = Trails {
+        head: [0; TABLE],
+        next: [NO_NODE; TABLE],
+    };
+
+    // Those of a row, where no node goes on as yet.
+    pub fn fill(&mut self, n: usize, row: &[u16])
+        requires { Falls n row.now × (self.old.next ≡ zeros table_words) }
+        ensures { Paths n row.now (nodes row.now) self.new.head self.new.next }
     {
-        let mut trails = Trails {
-            head: [0; TABLE],
-            next: [NO_NODE; TABLE],
-        };
-        trails.head[n] = n as u16;
+        self.head[n] = n as u16;
         for v in n + 1..nodes(row) {
-            trails.extend(n, row, v);
+            self.extend(n, row, v);
         }
-        trails
     }
 
     // Node v goes on with the path of its parent, or begins one where another child goes on already.

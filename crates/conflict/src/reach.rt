@@ -5,7 +5,7 @@ ghost use Rattle.trees.specs.Rows.{nodes};
 ghost use Rattle.trees.specs.Checks.{most_samples};
 ghost use Rattle.trees.specs.Valid.{Standard};
 ghost use Rattle.trees.specs.Tables.{table_words, entry};
-ghost use Rattle.conflict.specs.Paths.{Paths, Onward};
+ghost use Rattle.conflict.specs.Routes.{first_of, last_of, Laid, Below};
 ghost use Rattle.conflict.specs.Spans.{up_from, lesser_of};
 ghost use Rattle.conflict.specs.Gathering.{NodeOrNone, Joins, Levelled, Ends};
 ghost use Rattle.conflict.specs.Gathering.{reach_at, Begins, Seeding, Handed, Gauged};
@@ -57,7 +57,7 @@ impl Ways<'_> {
     // The parent of node x, of which whatever x contains touches x alone.
     fn up(&self, x: usize) -> Reach
         requires { (x + 1 < length self.now.row.now) × (x < table_words) }
-        ensures { result ≡ up_from self.now.row.now (entry self.now.ends.now.first) (entry self.now.ends.now.last) x }
+        ensures { result ≡ up_from self.now.row.now (first_of self.now) (last_of self.now) x }
     {
         Reach {
             node: self.row[x + 1],
@@ -77,8 +77,8 @@ impl Ways<'_> {
     // What y reaches, brought up to node x where it is below it on one path.
     fn level(&self, x: u16, y: Reach) -> Reach
         requires { Standard self.now.n self.now.row.now × (x < nodes self.now.row.now)
-            × (x < y.node → Onward self.now.n self.now.row.now self.now.trails.now.next x y.node) }
-        ensures { Levelled self.now.n self.now.row.now (entry self.now.ends.now.first) (entry self.now.ends.now.last) x y result }
+            × (x < y.node → Below self.now x y.node) }
+        ensures { Levelled self.now.n self.now.row.now (first_of self.now) (last_of self.now) x y result }
     {
         if x < y.node {
             return self.up(usize::from(self.trails.next[usize::from(x)]));
@@ -90,9 +90,9 @@ impl Ways<'_> {
     fn settle(&self, x: Reach, y: Reach) -> Reach
         requires { Standard self.now.n self.now.row.now
             × (x.node < nodes self.now.row.now) × (y.node < nodes self.now.row.now)
-            × (x.node < y.node → Onward self.now.n self.now.row.now self.now.trails.now.next x.node y.node)
-            × (y.node < x.node → Onward self.now.n self.now.row.now self.now.trails.now.next y.node x.node) }
-        ensures { Ends self.now.n self.now.row.now (entry self.now.ends.now.first) (entry self.now.ends.now.last) x y result }
+            × (x.node < y.node → Below self.now x.node y.node)
+            × (y.node < x.node → Below self.now y.node x.node) }
+        ensures { Ends self.now.n self.now.row.now (first_of self.now) (last_of self.now) x y result }
     {
         let u = self.level(y.node, x);
         let t = self.level(x.node, y);
@@ -102,11 +102,10 @@ impl Ways<'_> {
     // Up from two nodes to the first that is above both: as long as they are on two paths, the one whose path begins at
     // the greater number goes past its beginning.
     fn meet(&self, a: Reach, b: Reach) -> Reach
-        requires { Standard self.now.n self.now.row.now
-            × Paths self.now.n self.now.row.now (nodes self.now.row.now) self.now.trails.now.head self.now.trails.now.next
+        requires { Laid self.now
             × (self.now.n ≤ a.node) × (a.node < nodes self.now.row.now)
             × (self.now.n ≤ b.node) × (b.node < nodes self.now.row.now) }
-        ensures { Joins self.now.n self.now.row.now (entry self.now.ends.now.first) (entry self.now.ends.now.last) a b result }
+        ensures { Joins self.now.n self.now.row.now (first_of self.now) (last_of self.now) a b result }
     {
         let mut x = a;
         let mut y = b;
@@ -126,11 +125,10 @@ impl Ways<'_> {
 
     // What is reached by two groups together; the first may be none.
     fn join(&self, a: Reach, b: Reach) -> Reach
-        requires { Standard self.now.n self.now.row.now
-            × Paths self.now.n self.now.row.now (nodes self.now.row.now) self.now.trails.now.head self.now.trails.now.next
+        requires { Laid self.now
             × NodeOrNone self.now.n self.now.row.now a.node
             × (self.now.n ≤ b.node) × (b.node < nodes self.now.row.now) }
-        ensures { Joins self.now.n self.now.row.now (entry self.now.ends.now.first) (entry self.now.ends.now.last) a b result }
+        ensures { Joins self.now.n self.now.row.now (first_of self.now) (last_of self.now) a b result }
     {
         if a.node == NO_NODE {
             return b;
@@ -141,7 +139,7 @@ impl Ways<'_> {
     // What node v of the reference starts with: a sample is reached by its parent, and an inner node has got nothing.
     fn initial(&self, v: usize) -> Reach
         requires { (self.now.n ≤ most_samples) × (self.now.n < length self.now.row.now) }
-        ensures { Begins self.now.n self.now.row.now (entry self.now.ends.now.first) (entry self.now.ends.now.last) v result }
+        ensures { Begins self.now.n self.now.row.now (first_of self.now) (last_of self.now) v result }
     {
         if v < self.n {
             return self.up(v);
@@ -152,7 +150,7 @@ impl Ways<'_> {
     // What the nodes below m start with.
     fn seed(&self, m: usize, reached: &mut Reaches)
         requires { (self.now.n ≤ most_samples) × (self.now.n < length self.now.row.now) × (m ≤ table_words) }
-        ensures { Seeding self.now.n self.now.row.now (entry self.now.ends.now.first) (entry self.now.ends.now.last) m reached.new }
+        ensures { Seeding self.now.n self.now.row.now (first_of self.now) (last_of self.now) m reached.new }
     {
         for v in 0..m {
             reached[v] = self.initial(v);
@@ -161,12 +159,11 @@ impl Ways<'_> {
 
     // Node v of the reference hands what it has got to its parent p.
     fn hand(&self, v: usize, p: usize, reached: &mut Reaches)
-        requires { Standard self.now.n self.now.row.now
-            × Paths self.now.n self.now.row.now (nodes self.now.row.now) self.now.trails.now.head self.now.trails.now.next
+        requires { Laid self.now
             × (v < table_words) × (p < table_words)
             × NodeOrNone self.now.n self.now.row.now (reach_at reached.old p).node
             × (self.now.n ≤ (reach_at reached.old v).node) × ((reach_at reached.old v).node < nodes self.now.row.now) }
-        ensures { Handed self.now.n self.now.row.now (entry self.now.ends.now.first) (entry self.now.ends.now.last) v p
+        ensures { Handed self.now.n self.now.row.now (first_of self.now) (last_of self.now) v p
             reached.old reached.new }
     {
         reached[p] = self.join(reached[p], reached[v]);
@@ -174,9 +171,8 @@ impl Ways<'_> {
 
     // What each node of the reference reaches in the row.
     pub fn gather(&self, reference: &[u16], reached: &mut Reaches)
-        requires { Standard self.now.n reference.now × Standard self.now.n self.now.row.now
-            × Paths self.now.n self.now.row.now (nodes self.now.row.now) self.now.trails.now.head self.now.trails.now.next }
-        ensures { Gauged self.now.n reference.now self.now.row.now (entry self.now.ends.now.first) (entry self.now.ends.now.last)
+        requires { Standard self.now.n reference.now × Laid self.now }
+        ensures { Gauged self.now.n reference.now self.now.row.now (first_of self.now) (last_of self.now)
             reached.new }
     {
         let m = nodes(reference);

@@ -73,8 +73,8 @@ fn count_run(
     ensures { Turned (turned_by n weight candidates.now row.now counter.old) n
         (nodes candidates.now) counter.new keep.new }
 {
-    let mut held: [bool; TABLE] = [false; TABLE];
-    let mut agrees: [bool; TABLE] = [false; TABLE];
+    let mut held = [false; TABLE];
+    let mut agrees = [false; TABLE];
     sides(n, candidates, chart, row, sizes, &mut held, &mut agrees);
     sweep(n, nodes(candidates), &held, &agrees, counter, keep);
 }
@@ -113,10 +113,12 @@ pub fn round(
     ensures { Rounded n weight row.now candidates.now counter.old
         out.new fresh.new }
 {
-    let chart = Chart::of(n, candidates);
-    let run = Chart::of(n, row);
-    let mut keep: [bool; TABLE] = [false; TABLE];
-    let mut enter: [bool; TABLE] = [false; TABLE];
+    let mut chart = Chart::EMPTY;
+    let mut run = Chart::EMPTY;
+    let mut keep = [false; TABLE];
+    let mut enter = [false; TABLE];
+    chart.fill(n, candidates);
+    run.fill(n, row);
     count_run(
         n,
         candidates,

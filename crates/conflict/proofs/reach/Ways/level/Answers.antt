@@ -2,13 +2,12 @@
 use Rattle.std.proofs.Common.{◌≡◌, ◌∙◌, ap, arith}
 use Rattle.trees.specs.Tables.{entry}
 use Rattle.trees.proofs.FallsLaws.{standard_falls, few}
-use Rattle.conflict.specs.Paths.{Onward}
+use Rattle.conflict.specs.Routes.{Below}
 use Rattle.conflict.specs.GatherLaws.{levelled_stay, levelled_up}
 use Rattle.conflict.proofs.reach.Ways.level.Goals.{After-from-then-x-y, Then-x-y}
 use Rattle.conflict.proofs.reach.Ways.level.Goals as goal
 
-onward : (c : Then-x-y) → let a = c.args in
-    Onward a.self.now.n a.self.now.row.now a.self.now.trails.now.next a.x a.y.node
+onward : (c : Then-x-y) → Below c.args.self.now c.args.x c.args.y.node
 onward c = c.requires.2 (omega arith)
 
 -- the node of which the parent is taken
