@@ -31,7 +31,7 @@ returns c =
     let w = a.words.now in
     let new = both_go (check11 w a.id) (check12 w) w _ c.in_ok-at.ensures.0 c.in_ok-room_left.ensures in
     let run = stores (samples w) a.id a.tree.row.now in
-    let wide = (renumbered_standard (samples w) a.tree.row.now (rw c.requires.1 at known_valid _ _ a.tree.valid)).valid.words in
+    let wide = (renumbered_standard (samples w) a.tree.row.now (rw c.requires.1 at (known_valid _ _ a.tree.valid))).valid.words in
     let both = leaves (added_valid w a.id a.tree.row.now) _ _
     (new ∙ ap accepting (sym (c.put_run.ensures ∙ put_words w c.requires.0 run _ wide c.in_ok-at.ensures.1))) in
     record { answer = both.0; words = both.1 }
