@@ -4,35 +4,39 @@
 ghost use Rattle.std.specs.Prelude.{◌≡◌, ◌+◌, ◌-◌, ◌<◌, ◌≤◌};
 ghost use Rattle.trees.specs.Rows.{nodes};
 ghost use Rattle.trees.specs.Checks.{most_samples};
-ghost use Rattle.trees.specs.Valid.{Standard};
-ghost use Rattle.trees.specs.Falls.{Falls};
 ghost use Rattle.trees.specs.Tables.{Tabled, table_words, entry, Keys, Most, least_at, rank_in};
 ghost use Rattle.trees.specs.Passes.{Ranked};
 ghost use Rattle.trees.specs.Mates.{mate_of, candidate, candidate_of, fitting, confirmed, from_end, Tables, Spread};
 
-use judge::nodes;
+use judge::{FallingRow, StandardRow, nodes};
 use passes::{Ranks, TABLE, Table, least, starts};
 
 // 0 is a sample, and so no inner node.
 pub const NO_MATE: u16 = 0;
 
-// What is made once of a reference row for many calls of `mates`: ranks, and the starts of intervals.
+// A reference row, and what is made of it once for many calls of `mates`: ranks, and the starts of intervals.
 #[derive(Clone, Copy)]
-pub struct Chart {
+pub struct Chart<'a> {
+    pub reference: StandardRow<'a>,
     pub ranks: Ranks,
     pub start: Table,
+    ghost tables: { Tables reference.n reference.row.now ranks.size ranks.low start },
 }
 
-impl Chart {
+impl<'a> Chart<'a> {
     // The chart of a reference row.
-    pub fn of(n: usize, reference: &[u16]) -> Chart
-        requires { Standard n reference.now }
-        ensures { Tables n reference.now result.ranks.size result.ranks.low result.start }
+    pub fn of(reference: StandardRow<'a>) -> Chart<'a>
+        ensures { result.reference ≡ reference.entry }
     {
         let mut off: Table = [0; TABLE];
-        let ranks = Ranks::with_offsets(n, reference, &mut off);
-        let start = starts(n, reference, &off);
-        Chart { ranks, start }
+        let row = reference.falling();
+        let ranks = Ranks::with_offsets(row, &mut off);
+        let start = starts(row, &off);
+        Chart {
+            reference,
+            ranks,
+            start,
+        }
     }
 }
 
@@ -51,24 +55,19 @@ fn advance(n: usize, m: usize, ranks: &Ranks, b: usize, k: usize) -> usize
     (b..m).find(|&x| k <= ranks.rank(n, x)).unwrap_or(m)
 }
 
-// For each inner node of a reference row its candidate in another row, by ranks that rise in both: one walk in lockstep.
-fn candidates(
-    n: usize,
-    reference: &[u16],
-    ranks: &Ranks,
-    row: &[u16],
-    other: &Ranks,
-    mate: &mut Table,
-)
-    requires { Standard n reference.now × Ranked n reference.now ranks.now.size ranks.now.low × Standard n row.now
-        × Ranked n row.now other.now.size other.now.low }
-    ensures { Tabled (candidate_of n reference.now row.now) n (nodes reference.now) mate.new }
+// For each inner node of a chart's row its candidate in another row, by ranks that rise in both: one walk in lockstep.
+#[tactic(auto, using(passes::proofs::StandardRows::standard_long, passes::proofs::StandardRows::standard_few))]
+fn candidates(chart: &Chart, row: StandardRow, other: &Ranks, mate: &mut Table)
+    requires { (row.n ≡ chart.now.reference.n) × Ranked row.n row.row.now other.now.size other.now.low }
+    ensures { Tabled (candidate_of chart.now.reference.n chart.now.reference.row.now row.entry.row.now) chart.now.reference.n
+        (nodes chart.now.reference.row.now) mate.new }
 {
-    let m = nodes(reference);
-    let others = nodes(row);
+    let n = chart.reference.n;
+    let m = nodes(chart.reference.row);
+    let others = nodes(row.row);
     let mut b = n;
     for a in n..m {
-        let k = ranks.rank(n, a);
+        let k = chart.ranks.rank(n, a);
         b = advance(n, others, other, b, k);
         mate[a] = b as u16;
     }
@@ -77,19 +76,25 @@ fn candidates(
 // A row beside a chart: how many nodes it has, their ranks, and the ends of their groups by the chart's places.
 #[derive(Clone, Copy)]
 struct Beside<'a> {
-    chart: &'a Chart,
-    nodes: usize,
+    chart: &'a Chart<'a>,
+    row: StandardRow<'a>,
+    m: usize,
     ranks: &'a Ranks,
     ends: &'a Ends,
+    ghost same: { row.n ≡ chart.now.reference.n },
+    ghost counted: { m ≡ nodes row.row.now },
+    ghost spread: { Spread chart.now.reference.n chart.now.reference.row.now row.row.now chart.now.ranks.size chart.now.start ranks.now.size ends.now.first
+        ends.now.last },
 }
 
 impl Beside<'_> {
     // Whether node b has the group of node a of the chart: its size, and its first and last place in the interval of a.
-    fn fits(&self, n: usize, a: usize, b: usize) -> bool
-        requires { (n ≤ most_samples) × (a < table_words) × (b < table_words) }
-        ensures { result ≡ fitting n (entry self.now.chart.now.ranks.size a) (entry self.now.chart.now.start a) (entry self.now.ranks.now.size b)
-            (entry self.now.ends.now.first b) (entry self.now.ends.now.last b) }
+    fn fits(&self, a: usize, b: usize) -> bool
+        requires { (a < table_words) × (b < table_words) }
+        ensures { result ≡ fitting self.now.chart.now.reference.n (entry self.now.chart.now.ranks.size a) (entry self.now.chart.now.start a)
+            (entry self.now.ranks.now.size b) (entry self.now.ends.now.first b) (entry self.now.ends.now.last b) }
     {
+        let n = self.chart.reference.n;
         let size = self.chart.ranks.size[a];
         let start = self.chart.start[a];
         let end = usize::from(start) + usize::from(size);
@@ -98,13 +103,14 @@ impl Beside<'_> {
     }
 
     // The candidate b of node a of the chart, where it is a node and fits.
-    fn confirm(&self, n: usize, a: usize, b: u16) -> u16
-        requires { (n ≤ most_samples) × (a < table_words) × (self.now.nodes ≤ table_words) }
-        ensures { result ≡ confirmed self.now.nodes b (fitting n (entry self.now.chart.now.ranks.size a) (entry self.now.chart.now.start a)
-            (entry self.now.ranks.now.size b) (entry self.now.ends.now.first b) (entry self.now.ends.now.last b)) }
+    #[tactic(auto, using(passes::proofs::StandardRows::standard_few))]
+    fn confirm(&self, a: usize, b: u16) -> u16
+        requires { a < table_words }
+        ensures { result ≡ confirmed self.now.m b (fitting self.now.chart.now.reference.n (entry self.now.chart.now.ranks.size a)
+            (entry self.now.chart.now.start a) (entry self.now.ranks.now.size b) (entry self.now.ends.now.first b) (entry self.now.ends.now.last b)) }
     {
         let x = usize::from(b);
-        if x < self.nodes && self.fits(n, a, x) {
+        if x < self.m && self.fits(a, x) {
             b
         } else {
             NO_MATE
@@ -113,15 +119,16 @@ impl Beside<'_> {
 }
 
 // The candidates that fit.
-fn confirmations(n: usize, reference: &[u16], row: &[u16], beside: &Beside, mate: &mut Table)
-    requires { Standard n reference.now × Standard n row.now × (beside.now.nodes ≡ nodes row.now)
-        × Spread n reference.now row.now beside.now.chart.now.ranks.size beside.now.chart.now.start beside.now.ranks.now.size
-        beside.now.ends.now.first beside.now.ends.now.last
-        × Tabled (candidate_of n reference.now row.now) n (nodes reference.now) mate.old }
-    ensures { Tabled (mate_of n reference.now row.now) n (nodes reference.now) mate.new }
+#[tactic(auto, using(passes::proofs::StandardRows::standard_long, passes::proofs::StandardRows::standard_few))]
+fn confirmations(beside: &Beside, mate: &mut Table)
+    requires { Tabled (candidate_of beside.now.chart.now.reference.n beside.now.chart.now.reference.row.now beside.now.row.row.now)
+        beside.now.chart.now.reference.n (nodes beside.now.chart.now.reference.row.now) mate.old }
+    ensures { Tabled (mate_of beside.now.chart.now.reference.n beside.now.chart.now.reference.row.now beside.now.row.row.now)
+        beside.now.chart.now.reference.n (nodes beside.now.chart.now.reference.row.now) mate.new }
 {
-    for a in n..nodes(reference) {
-        mate[a] = beside.confirm(n, a, mate[a]);
+    let reference = beside.chart.reference;
+    for a in reference.n..nodes(reference.row) {
+        mate[a] = beside.confirm(a, mate[a]);
     }
 }
 
@@ -144,35 +151,37 @@ fn all_from_end(n: usize, start: &Table, t: &mut Table)
 }
 
 // The ends of each node's group, by the places of a reference row.
-pub fn spread(n: usize, row: &[u16], start: &Table) -> Ends
-    requires { Falls n row.now × Keys n start.now }
-    ensures { Tabled (least_at n row.now (entry start.now)) 0 (nodes row.now) result.first
-        × Tabled (least_at n row.now (from_end n (entry start.now))) 0 (nodes row.now) result.last }
+pub fn spread(row: FallingRow, start: &Table) -> Ends
+    requires { Keys row.n start.now }
+    ensures { Tabled (least_at row.entry.n row.entry.row.now (entry start.now)) 0 (nodes row.entry.row.now) result.first
+        × Tabled (least_at row.entry.n row.entry.row.now (from_end row.entry.n (entry start.now))) 0 (nodes row.entry.row.now) result.last }
 {
     let mut backward: Table = [0; TABLE];
-    all_from_end(n, start, &mut backward);
+    all_from_end(row.n, start, &mut backward);
     Ends {
-        first: least(n, row, start),
-        last: least(n, row, &backward),
+        first: least(row, start),
+        last: least(row, &backward),
     }
 }
 
-// For each inner node of a reference row, with its chart, the node of another row that has the same group, or NO_MATE.
-pub fn mates(n: usize, reference: &[u16], chart: &Chart, row: &[u16]) -> Table
-    requires { Standard n reference.now × Tables n reference.now chart.now.ranks.size chart.now.ranks.low chart.now.start
-        × Standard n row.now }
-    ensures { Tabled (mate_of n reference.now row.now) n (nodes reference.now) result }
+// For each inner node of a chart's row the node of another row that has the same group, or NO_MATE.
+pub fn mates(chart: &Chart, row: StandardRow) -> Table
+    requires { row.n ≡ chart.now.reference.n }
+    ensures { Tabled (mate_of chart.now.reference.n chart.now.reference.row.now row.entry.row.now) chart.now.reference.n
+        (nodes chart.now.reference.row.now) result }
 {
     let mut mate: Table = [0; TABLE];
-    let ranks = Ranks::of(n, row);
-    candidates(n, reference, &chart.ranks, row, &ranks, &mut mate);
-    let ends = spread(n, row, &chart.start);
+    let falling = row.falling();
+    let ranks = Ranks::of(falling);
+    candidates(chart, row, &ranks, &mut mate);
+    let ends = spread(falling, &chart.start);
     let beside = Beside {
         chart,
-        nodes: nodes(row),
+        row,
+        m: nodes(row.row),
         ranks: &ranks,
         ends: &ends,
     };
-    confirmations(n, reference, row, &beside, &mut mate);
+    confirmations(&beside, &mut mate);
     mate
 }

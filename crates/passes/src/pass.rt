@@ -2,12 +2,11 @@
 ghost use Rattle.std.specs.Prelude.{◌≡◌, ◌+◌, ◌-◌, ◌<◌, ◌≤◌, min, get_or, set};
 ghost use Rattle.trees.specs.Rows.{nodes};
 ghost use Rattle.trees.specs.Checks.{most_samples};
-ghost use Rattle.trees.specs.Falls.{Falls};
 ghost use Rattle.trees.specs.Tables.{Tabled, table_words, entry, one, own, seeded, Keys, least_at, rank_of};
 ghost use Rattle.trees.specs.Passes.{Stage, Offsets, Sized, Ranked, Starts};
 
 use crate::turns::step;
-use judge::nodes;
+use judge::{FallingRow, nodes};
 use std::array;
 
 // A table has a word for each node of the largest row.
@@ -32,24 +31,23 @@ fn hand(size: &mut Table, off: &mut Table, v: usize, p: usize)
 }
 
 // The pass that adds.
-fn add_up(n: usize, row: &[u16], m: usize, size: &mut Table, off: &mut Table)
-    requires { Falls n row.now × (m ≡ nodes row.now) × Stage n row.now ◌+◌ 0 one 0 size.old }
-    ensures { Sized n row.now size.new off.new }
+fn add_up(row: FallingRow, m: usize, size: &mut Table, off: &mut Table)
+    requires { (m ≡ nodes row.row.now) × Stage row.n row.row.now ◌+◌ 0 one 0 size.old }
+    ensures { Sized row.entry.n row.entry.row.now size.new off.new }
 {
     for done in 0..m - 1 {
-        let t = step(n, row, m, done);
+        let t = step(row, m, done);
         hand(size, off, t.node, t.up);
     }
 }
 
 // The size of each node's group, and where its samples start among those of its parent.
-fn sizes(n: usize, row: &[u16], off: &mut Table) -> Table
-    requires { Falls n row.now }
-    ensures { Sized n row.now result off.new }
+fn sizes(row: FallingRow, off: &mut Table) -> Table
+    ensures { Sized row.entry.n row.entry.row.now result off.new }
 {
     let mut size: Table = [0; TABLE];
-    size[..n].fill(1);
-    add_up(n, row, nodes(row), &mut size, off);
+    size[..row.n].fill(1);
+    add_up(row, nodes(row.row), &mut size, off);
     size
 }
 
@@ -62,15 +60,15 @@ fn lower(least: &mut Table, v: usize, p: usize)
 }
 
 // The least key of the samples of each node's group.
-pub fn least(n: usize, row: &[u16], key: &Table) -> Table
-    requires { Falls n row.now × Keys n key.now }
-    ensures { Tabled (least_at n row.now (entry key.now)) 0 (nodes row.now) result }
+pub fn least(row: FallingRow, key: &Table) -> Table
+    requires { Keys row.n key.now }
+    ensures { Tabled (least_at row.entry.n row.entry.row.now (entry key.now)) 0 (nodes row.entry.row.now) result }
 {
-    let m = nodes(row);
+    let m = nodes(row.row);
     let mut least = *key;
-    least[n..].fill(NO_KEY);
+    least[row.n..].fill(NO_KEY);
     for i in 0..m - 1 {
-        let t = step(n, row, m, i);
+        let t = step(row, m, i);
         lower(&mut least, t.node, t.up);
     }
     least
@@ -85,14 +83,14 @@ fn place(start: &mut Table, off: &Table, v: usize, p: usize)
 }
 
 // Where each node's interval of places starts; a sample's is its place. The root comes first, and each node after its parent.
-pub fn starts(n: usize, row: &[u16], off: &Table) -> Table
-    requires { Falls n row.now × Offsets n row.now (nodes row.now - 1) off.now }
-    ensures { Starts n row.now (entry result) }
+pub fn starts(row: FallingRow, off: &Table) -> Table
+    requires { Offsets row.n row.row.now (nodes row.row.now - 1) off.now }
+    ensures { Starts row.entry.n row.entry.row.now (entry result) }
 {
-    let m = nodes(row);
+    let m = nodes(row.row);
     let mut start: Table = [0; TABLE];
     for i in (0..m - 1).rev() {
-        let t = step(n, row, m, i);
+        let t = step(row, m, i);
         place(&mut start, off, t.node, t.up);
     }
     start
@@ -107,21 +105,20 @@ pub struct Ranks {
 
 impl Ranks {
     // Those of a row.
-    pub fn of(n: usize, row: &[u16]) -> Ranks
-        requires { Falls n row.now }
-        ensures { Ranked n row.now result.size result.low }
+    pub fn of(row: FallingRow) -> Ranks
+        ensures { Ranked row.entry.n row.entry.row.now result.size result.low }
     {
         let mut off: Table = [0; TABLE];
-        Ranks::with_offsets(n, row, &mut off)
+        Ranks::with_offsets(row, &mut off)
     }
 
     // Those of a row, and where each node's samples start among those of its parent.
-    pub fn with_offsets(n: usize, row: &[u16], off: &mut Table) -> Ranks
-        requires { Falls n row.now }
-        ensures { Ranked n row.now result.size result.low × Sized n row.now result.size off.new }
+    pub fn with_offsets(row: FallingRow, off: &mut Table) -> Ranks
+        ensures { Ranked row.entry.n row.entry.row.now result.size result.low
+            × Sized row.entry.n row.entry.row.now result.size off.new }
     {
-        let size = sizes(n, row, off);
-        let low = least(n, row, &array::from_fn(|s| s as u16));
+        let size = sizes(row, off);
+        let low = least(row, &array::from_fn(|s| s as u16));
         Ranks { size, low }
     }
 

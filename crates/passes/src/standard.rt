@@ -3,12 +3,12 @@ ghost use Rattle.std.specs.Prelude.{◌≡◌, ◌+◌, ◌*◌, ◌-◌, ◌<�
 ghost use Rattle.trees.specs.Rows.{nodes};
 ghost use Rattle.trees.specs.Checks.{fewest_samples, most_samples, row_words};
 ghost use Rattle.trees.specs.Valid.{standard};
-ghost use Rattle.trees.specs.Falls.{Falls, rightful, falling};
+ghost use Rattle.trees.specs.Falls.{rightful, falling};
 ghost use Rattle.trees.specs.Tables.{table_words, Most, rank_in};
 ghost use Rattle.trees.specs.Linear.{filler_zero, rising, ranked};
 
 use crate::pass::Ranks;
-use judge::{ROOT_MARK, nodes, parent};
+use judge::{FallingRow, ROOT_MARK, nodes, parent};
 
 // The samples that the last inner node has at least.
 const SMALLEST: u16 = 2;
@@ -52,13 +52,12 @@ fn rising(n: usize, last: usize, ranks: &Ranks) -> bool
 }
 
 // Whether the ranks of the inner nodes rise, and the last of them has two samples.
-fn ranked(n: usize, row: &[u16]) -> bool
-    requires { Falls n row.now }
-    ensures { result ≡ ranked n row.now }
+fn ranked(row: FallingRow) -> bool
+    ensures { result ≡ ranked row.entry.n row.entry.row.now }
 {
-    let ranks = Ranks::of(n, row);
-    let last = nodes(row) - 1;
-    (SMALLEST <= ranks.size[last]) & rising(n, last, &ranks)
+    let ranks = Ranks::of(row);
+    let last = nodes(row.row) - 1;
+    (SMALLEST <= ranks.size[last]) & rising(row.n, last, &ranks)
 }
 
 // Whether a row is valid and in standard numbering (RULES 4). It counts no children: ranks that rise, and two samples in the last node, imply two each.
@@ -73,5 +72,5 @@ pub fn is_standard(n: usize, row: &[u16]) -> bool
     if !falling(n, row) {
         return false;
     }
-    filler_zero(n, row) & ranked(n, row)
+    filler_zero(n, row) & ranked(FallingRow { n, row })
 }

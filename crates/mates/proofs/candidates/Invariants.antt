@@ -3,4 +3,4 @@ use Rattle.mates.proofs.Walks.{Walking}
 use Rattle.mates.proofs.candidates.Given as goal
 
 abbrev pub invariant-loop-a : goal.invariant-loop-a
-invariant-loop-a l = Walking l.n l.reference l.row l.a l.b l.mate
+invariant-loop-a l = Walking l.chart.reference.n l.chart.reference.row.now l.row.row.now l.a l.b l.mate

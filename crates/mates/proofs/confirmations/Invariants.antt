@@ -3,4 +3,4 @@ use Rattle.mates.proofs.Walks.{Confirming}
 use Rattle.mates.proofs.confirmations.Given as goal
 
 abbrev pub invariant-loop-a : goal.invariant-loop-a
-invariant-loop-a l = Confirming l.n l.reference l.row l.a l.mate
+invariant-loop-a l = Confirming l.beside.chart.now.reference.n l.beside.chart.now.reference.row.now l.beside.row.row.now l.a l.mate

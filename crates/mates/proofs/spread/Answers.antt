@@ -5,12 +5,11 @@ use Rattle.trees.proofs.TableLaws.{end_keys, tabled_least}
 use Rattle.mates.proofs.spread.Goals as goal
 
 pub least-requires-2 : goal.least-requires-2
-least-requires-2 c =
-    (c.requires.0, end_keys c.args.n c.args.start.now _ c.requires.1 c.all_from_end.ensures)
+least-requires-2 c = end_keys c.args.row.n c.args.start.now _ c.requires c.all_from_end.ensures
 
 pub returns : goal.returns
 returns c = (
   c.least.ensures,
-  tabled_least c.args.n c.args.row.now _ (from_end c.args.n (entry c.args.start.now)) _ c.all_from_end.ensures
+  tabled_least c.args.row.n c.args.row.row.now _ (from_end c.args.row.n (entry c.args.start.now)) _ c.all_from_end.ensures
       c.least-2.ensures,
 )

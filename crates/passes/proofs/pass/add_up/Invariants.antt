@@ -3,4 +3,4 @@ use Rattle.passes.proofs.Loops.{Adding}
 use Rattle.passes.proofs.pass.add_up.Given as goal
 
 abbrev pub invariant-loop-done : goal.invariant-loop-done
-invariant-loop-done l = Adding l.n l.row l.done l.size l.off
+invariant-loop-done l = Adding l.row.n l.row.row.now l.done l.size l.off

@@ -11,8 +11,7 @@ use Rattle.passes.proofs.pass.sizes.Goals as goal
 
 pub add_up-requires : goal.add_up-requires
 add_up-requires c = (
-  c.requires,
   c.nodes.ensures,
-  stage_start c.args.n c.args.row.now c.requires ◌+◌ 0 one _ (λ s h. refl)
-      (seeded_ones c.args.n _ c.fill.new.self (omega (arith, few _ _ c.requires)) (search rules)),
+  stage_start c.args.row.n c.args.row.row.now c.args.row.falls ◌+◌ 0 one _ (λ s h. refl)
+      (seeded_ones c.args.row.n _ c.fill.new.self (omega (arith, few _ _ c.args.row.falls)) (search rules)),
 )

@@ -15,30 +15,30 @@ module _ (c : After-step-t) where
   before : c.loop-i.i ≡ suc (c.loop-i.i - 1)
   before = omega arith
 
-  below : suc (c.loop-i.i - 1) < nodes c.args.row.now
-  below = omega (arith, c.requires.0.low)
+  below : suc (c.loop-i.i - 1) < nodes c.args.row.row.now
+  below = omega (arith, c.args.row.falls.low)
 
-  offset : get_or c.args.off.now c.step-t.result.node 0 ≡ offset_at c.args.n c.args.row.now (c.loop-i.i - 1)
-  offset = rw c.step-t.ensures.is (c.requires.1.at (c.loop-i.i - 1) (omega (arith, below)))
+  offset : get_or c.args.off.now c.step-t.result.node 0 ≡ offset_at c.args.row.n c.args.row.row.now (c.loop-i.i - 1)
+  offset = rw c.step-t.ensures.is (c.requires.at (c.loop-i.i - 1) (omega (arith, below)))
 
 pub loop-i-init : goal.loop-i-init
 loop-i-init c =
-    rw c.nodes-m.ensures (laying_start c.args.n c.args.row.now c.requires.0 _ (get_or-replicate 1024 c.args.n 0 0 (omega (arith, c.requires.0.most))))
+    rw c.nodes-m.ensures (laying_start c.args.row.n c.args.row.row.now c.args.row.falls _ (get_or-replicate 1024 c.args.row.n 0 0 (omega (arith, c.args.row.falls.most))))
 
 pub place-requires : goal.place-requires
 place-requires c =
     let s = (goal.at.place-requires c).After-step-t in
     let x = c.step-t.ensures in
-    let k = laying_room c.args.n c.args.row.now c.requires.0 (c.loop-i.i - 1) c.loop-i.start _ _ _ (below s) x (offset s) (rw (before s) at c.loop-i.invariant) in
-    (omega (arith, x.low, few _ _ c.requires.0), omega (arith, x.top, few _ _ c.requires.0), omega (arith, c.requires.0.most))
+    let k = laying_room c.args.row.n c.args.row.row.now c.args.row.falls (c.loop-i.i - 1) c.loop-i.start _ _ _ (below s) x (offset s) (rw (before s) at c.loop-i.invariant) in
+    (omega (arith, x.low, few _ _ c.args.row.falls), omega (arith, x.top, few _ _ c.args.row.falls), omega (arith, c.args.row.falls.most))
 
 pub loop-i-preserved : goal.loop-i-preserved
 loop-i-preserved c =
     let s = (goal.at.loop-i-preserved c).After-step-t in
-    laying_step c.args.n c.args.row.now c.requires.0 (c.loop-i.i - 1) c.loop-i.start _ _ _ (below s) c.step-t.ensures (offset s)
+    laying_step c.args.row.n c.args.row.row.now c.args.row.falls (c.loop-i.i - 1) c.loop-i.start _ _ _ (below s) c.step-t.ensures (offset s)
     (rw (before s) at c.loop-i.invariant) _ c.place.array_long c.place.ensures
 
 pub returns : goal.returns
 returns c =
     let e : c.loop-i.i ≡ 0 = omega arith in
-    laying_end c.args.n c.args.row.now c.loop-i.start (rw e at c.loop-i.invariant)
+    laying_end c.args.row.n c.args.row.row.now c.loop-i.start (rw e at c.loop-i.invariant)

@@ -3,4 +3,4 @@ use Rattle.passes.proofs.Loops.{Laying}
 use Rattle.passes.proofs.pass.starts.Given as goal
 
 abbrev pub invariant-loop-i : goal.invariant-loop-i
-invariant-loop-i l = Laying l.n l.row l.i l.start
+invariant-loop-i l = Laying l.row.n l.row.row.now l.i l.start

@@ -39,10 +39,10 @@ returns-then-not-falling c =
 pub filler_zero-requires : goal.filler_zero-requires
 filler_zero-requires c = (c.requires.2, (in-range (goal.at.filler_zero-requires c).Else-not-n-m).1)
 
-pub ranked-requires : goal.ranked-requires
-ranked-requires c =
-    falls_to c.args.n c.args.row.now c.requires.1 c.requires.2 (in-range (goal.at.ranked-requires c).Else-not-n-m).0 (in-range (goal.at.ranked-requires c).Else-not-n-m).1
-    (sym c.falling.ensures ∙ c.if-not-falling.false)
+pub invariant_of-ranked : goal.invariant_of-ranked
+invariant_of-ranked c =
+    let spans = in-range (goal.at.invariant_of-ranked c).Else-not-n-m in
+    record { falls = falls_to c.args.n c.args.row.now c.requires.1 c.requires.2 spans.0 spans.1 (sym c.falling.ensures ∙ c.if-not-falling.false) }
 
 pub returns : goal.returns
 returns c =
