@@ -73,8 +73,8 @@ fn count_run(
     ensures { Turned (turned_by n weight candidates.now row.now counter.old) n
         (nodes candidates.now) counter.new keep.new }
 {
-    let mut held: [bool; TABLE] = [false; TABLE];
-    let mut agrees: [bool; TABLE] = [false; TABLE];
+    let mut held = [false; TABLE];
+    let mut agrees = [false; TABLE];
     sides(n, candidates, chart, row, sizes, &mut held, &mut agrees);
     sweep(n, nodes(candidates), &held, &agrees, counter, keep);
 }
@@ -115,8 +115,8 @@ pub fn round(
 {
     let chart = Chart::of(n, candidates);
     let run = Chart::of(n, row);
-    let mut keep: [bool; TABLE] = [false; TABLE];
-    let mut enter: [bool; TABLE] = [false; TABLE];
+    let mut keep = [false; TABLE];
+    let mut enter = [false; TABLE];
     count_run(
         n,
         candidates,

@@ -201,8 +201,8 @@ fn parents(n: usize, a: &Ladder, b: &Ladder, c: usize, mins: &mut Table)
     ensures { Tabled (parent_of n a.now.row.now a.now.up.now b.now.row.now b.now.up.now mins.old)
         n c mins.new }
 {
-    let mut places_a = [0u16; MOST_SAMPLES];
-    let mut places_b = [0u16; MOST_SAMPLES];
+    let mut places_a = [0; MOST_SAMPLES];
+    let mut places_b = [0; MOST_SAMPLES];
     start(n, a.row, &mut places_a);
     start(n, b.row, &mut places_b);
     for i in (n + 1..c).rev() {

@@ -1,4 +1,5 @@
 -- `counters::round` counts the run, sees which of its groups enter, and renews the candidates: one round. Assumes nothing.
+use Rattle.std.proofs.Common.{rules}
 use Rattle.counters.proofs.RoundLaws.{ready_mergeable, rounded}
 use Rattle.counters.proofs.round.Goals as goal
 
@@ -10,7 +11,7 @@ count_run-requires c =
     (c.requires.1.tied.standard, c.of-chart.ensures, c.requires.0, c.of-run.ensures.ranked.sizes, c.requires.2)
 
 pub agreements-requires : goal.agreements-requires
-agreements-requires c = (c.requires.0, c.of-run.ensures, c.requires.1.tied.standard)
+agreements-requires c = (c.requires.0, c.of-run.ensures, search rules)
 
 pub renew-requires : goal.renew-requires
 renew-requires c =
