@@ -4,11 +4,10 @@
 ghost use Rattle.std.specs.Prelude.{◌≡◌, ◌+◌, ◌<◌};
 ghost use Rattle.trees.specs.Lists.{zeros};
 ghost use Rattle.trees.specs.Rows.{nodes};
-ghost use Rattle.trees.specs.Falls.{Falls};
 ghost use Rattle.trees.specs.Tables.{table_words};
 ghost use Rattle.conflict.specs.Paths.{Paths};
 
-use judge::{nodes, parent};
+use judge::{FallingRow, nodes, parent};
 use passes::{TABLE, Table};
 
 // 0 is a sample, and so no inner node. A table is of plain words (fixed memory), and so has no Option.
@@ -23,27 +22,27 @@ pub struct Trails {
 
 impl Trails {
     // Those of a row.
-    pub fn of(n: usize, row: &[u16]) -> Trails
-        requires { Falls n row.now }
-        ensures { Paths n row.now (nodes row.now) result.head result.next }
+    pub fn of(row: FallingRow) -> Trails
+        ensures { Paths row.entry.n row.entry.row.now (nodes row.entry.row.now) result.head result.next }
     {
         let mut trails = Trails {
             head: [0; TABLE],
             next: [NO_NODE; TABLE],
         };
+        let n = row.n;
         trails.head[n] = n as u16;
-        for v in n + 1..nodes(row) {
-            trails.extend(n, row, v);
+        for v in n + 1..nodes(row.row) {
+            trails.extend(row, v);
         }
         trails
     }
 
     // Node v goes on with the path of its parent, or begins one where another child goes on already.
-    fn extend(&mut self, n: usize, row: &[u16], v: usize)
-        requires { Falls n row.now × (n < v) × (v < nodes row.now) × Paths n row.now v self.old.head self.old.next }
-        ensures { Paths n row.now (v + 1) self.new.head self.new.next }
+    fn extend(&mut self, row: FallingRow, v: usize)
+        requires { (row.n < v) × (v < nodes row.row.now) × Paths row.n row.row.now v self.old.head self.old.next }
+        ensures { Paths row.entry.n row.entry.row.now (v + 1) self.new.head self.new.next }
     {
-        let p = parent(row, v);
+        let p = parent(row.row, v);
         if self.next[p] != NO_NODE {
             self.head[v] = v as u16;
             return;

@@ -1,15 +1,17 @@
 -- `conflict::reaches`: the places of the row's nodes, their paths, and the pass. Assumes nothing.
-
 use Rattle.trees.proofs.FallsLaws.{standard_falls}
+use Rattle.trees.proofs.StandardLaws.{standard_to}
 use Rattle.trees.proofs.PlaceLaws.{place_keys}
 use Rattle.conflict.specs.GatherLaws.{gauged_reached}
 use Rattle.conflict.proofs.reaches.Goals as goal
 
 pub spread-ends-requires : goal.spread-ends-requires
-spread-ends-requires c = (standard_falls _ _ c.requires.2, place_keys _ _ (standard_falls _ _ c.requires.0) c.args.start.now c.requires.1)
-
-pub of-trails-requires : goal.of-trails-requires
-of-trails-requires c = standard_falls _ _ c.requires.2
+spread-ends-requires c =
+    let chart = c.args.chart.now in
+    rw (c.falling-falling.ensures.samples, c.requires) (place_keys _ _ (standard_falls _ _ (standard_to _ _ chart.reference.standard)) chart.start chart.tables.starts)
 
 pub returns : goal.returns
-returns c = gauged_reached _ _ _ c.args.start.now _ _ _ c.spread-ends.ensures.0 c.spread-ends.ensures.1 c.gather.ensures
+returns c =
+    let row = c.falling-falling.ensures in
+    let ends = rw (row.samples, row.row, c.requires) at c.spread-ends.ensures in
+    gauged_reached _ _ _ c.args.chart.now.start _ _ _ ends.0 ends.1 (rw c.requires at c.gather.ensures)

@@ -8,12 +8,12 @@ use Rattle.conflict.specs.PathLaws.{paths_start}
 use Rattle.conflict.proofs.paths.Trails.of.Goals as goal
 
 pub loop-v-init : goal.loop-v-init
-loop-v-init c = paths_start _ _ c.requires (zeros table_words) _ (length_zeros table_words) refl
+loop-v-init c = paths_start _ _ c.args.row.falls (zeros table_words) _ (length_zeros table_words) refl
 
 pub extend-requires : goal.extend-requires
-extend-requires c = (c.requires, omega arith, omega (arith, c.nodes-v-end.ensures), c.loop-v.invariant)
+extend-requires c = (omega arith, omega (arith, c.nodes-v-end.ensures), c.loop-v.invariant)
 
 pub returns : goal.returns
 returns c =
-    let e : c.loop-v.v ≡ nodes c.args.row.now = omega (arith, c.nodes-v-end.ensures, c.requires.low) in
+    let e : c.loop-v.v ≡ nodes c.args.row.row.now = omega (arith, c.nodes-v-end.ensures, c.args.row.falls.low) in
     rw (← e) c.loop-v.invariant

@@ -3,4 +3,4 @@ use Rattle.conflict.specs.Paths.{Paths}
 use Rattle.conflict.proofs.paths.Trails.of.Given as goal
 
 abbrev pub invariant-loop-v : goal.invariant-loop-v
-invariant-loop-v l = Paths l.n l.row l.v l.trails.head l.trails.next
+invariant-loop-v l = Paths l.row.n l.row.row.now l.v l.trails.head l.trails.next

@@ -6,4 +6,4 @@ use Rattle.conflict.proofs.reach.Ways.gather.Given as goal
 
 abbrev pub invariant-loop-i : goal.invariant-loop-i
 invariant-loop-i l = (length l.reached ≡ table_words)
-    × Gathered l.self.n l.reference l.self.row.now (entry l.self.ends.now.first) (entry l.self.ends.now.last) l.i l.reached
+    × Gathered l.self.row.n l.reference.row.now l.self.row.row.now (entry l.self.ends.now.first) (entry l.self.ends.now.last) l.i l.reached

@@ -2,15 +2,16 @@
 use mathlib.Core.Logic.{⊎_elim}
 use Prim.Native.Nat.{◌≤◌, ◌<◌}
 use Rattle.trees.specs.Rows.{nodes}
+use Rattle.trees.proofs.StandardLaws.{standard_to}
 use Rattle.conflict.specs.GatherLaws.{joins_none}
 use native.Mathlib.Omega.{arith}
 use Rattle.conflict.proofs.reach.Ways.join.Goals as goal
 
 pub returns-then-a-eq-NO_NODE : goal.returns-then-a-eq-NO_NODE
-returns-then-a-eq-NO_NODE c = joins_none _ _ c.requires.0 _ _ _ _ (omega arith)
+returns-then-a-eq-NO_NODE c = joins_none _ _ (standard_to _ _ c.args.self.now.row.standard) _ _ _ _ (omega arith)
 
 pub meet-requires : goal.meet-requires
 meet-requires c =
     let a = c.args in
-    let h : (a.self.now.n ≤ a.a.node) × (a.a.node < nodes a.self.now.row.now) = ⊎_elim (λ e. absurd (omega arith)) (λ e. e) c.requires.2 in
-    (c.requires.0, c.requires.1, h.0, h.1, c.requires.3, c.requires.4)
+    let h : (a.self.now.row.n ≤ a.a.node) × (a.a.node < nodes a.self.now.row.row.now) = ⊎_elim (λ e. absurd (omega arith)) (λ e. e) c.requires.0 in
+    (h.0, h.1, c.requires.1, c.requires.2)

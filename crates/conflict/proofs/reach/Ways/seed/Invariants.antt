@@ -6,4 +6,4 @@ use Rattle.conflict.proofs.reach.Ways.seed.Given as goal
 
 abbrev pub invariant-loop-v : goal.invariant-loop-v
 invariant-loop-v l = (length l.reached ≡ table_words)
-    × Seeding l.self.n l.self.row.now (entry l.self.ends.now.first) (entry l.self.ends.now.last) l.v l.reached
+    × Seeding l.self.row.n l.self.row.row.now (entry l.self.ends.now.first) (entry l.self.ends.now.last) l.v l.reached
