@@ -6,4 +6,5 @@ pub mod Spans
 pub mod SpanLaws
 pub mod HullLaws
 pub mod Gathering
+pub mod Routes
 pub mod GatherLaws

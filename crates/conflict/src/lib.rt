@@ -3,6 +3,7 @@
 
 mod paths;
 mod reach;
+mod ways;
 
 ghost use Rattle.std.specs.Prelude.{◌≡◌, ℕ, ◌<◌, ◌≤◌, not, false, get_or};
 ghost use Rattle.trees.specs.Rows.{nodes, group_at, holds};
@@ -13,7 +14,8 @@ ghost use Rattle.conflict.specs.Spans.{covers};
 ghost use Rattle.conflict.specs.Gathering.{Reached};
 
 use crate::paths::Trails;
-use crate::reach::{Reach, Reaches, Ways};
+use crate::reach::{NOTHING, Reach, Reaches};
+use crate::ways::Ways;
 use judge::{StandardRow, nodes};
 use mates::{Chart, spread};
 use passes::{TABLE, Table};
@@ -22,19 +24,20 @@ use passes::{TABLE, Table};
 pub type FlagTable = [bool; TABLE];
 
 // What each node of a chart's row reaches in another row.
-fn reaches(chart: &Chart, row: StandardRow) -> Reaches
+fn reaches(chart: &Chart, row: StandardRow, reached: &mut Reaches)
     requires { row.n ≡ chart.now.reference.n }
-    ensures { Reached chart.now.reference.n chart.now.reference.row.now row.entry.row.now (entry chart.now.start) result }
+    ensures { Reached chart.now.reference.n chart.now.reference.row.now row.entry.row.now (entry chart.now.start) reached.new }
 {
     let falling = row.falling();
     let ends = spread(falling, &chart.start);
-    let trails = Trails::of(falling);
+    let mut trails = Trails::EMPTY;
+    trails.fill(falling);
     let ways = Ways {
         row,
         ends: &ends,
         trails: &trails,
     };
-    ways.gather(chart.reference)
+    ways.gather(chart.reference, reached);
 }
 
 // Whether the places of what is reached lie in an interval.
@@ -46,56 +49,64 @@ fn covers(n: usize, size: u16, start: u16, reach: Reach) -> bool
 }
 
 // Flags those nodes from n to below m that pass a test.
-fn mark<F: Fn(usize) -> bool>(n: usize, m: usize, test: F) -> FlagTable
+fn mark<F: Fn(usize) -> bool>(n: usize, m: usize, test: F, flags: &mut FlagTable)
     requires bound { m ≤ table_words }
     requires calls { (v : ℕ) → n ≤ v → v < m → F.pre test v }
-    ensures { (v : ℕ) → n ≤ v → v < m → F.post test v (get_or result v false) }
+    ensures { (v : ℕ) → n ≤ v → v < m → F.post test v (get_or flags.new v false) }
 {
-    let mut flags: FlagTable = [false; TABLE];
     for v in n..m {
         flags[v] = test(v);
     }
-    flags
 }
 
 // For each inner node of a chart's row, whether another row agrees with its group.
 #[tactic(auto, using(passes::proofs::StandardRows::standard_long, passes::proofs::StandardRows::standard_few, crate::proofs::Words::standard_most))]
-pub fn agreements(chart: &Chart, row: StandardRow) -> FlagTable
+pub fn agreements(chart: &Chart, row: StandardRow, agrees: &mut FlagTable)
     requires { row.n ≡ chart.now.reference.n }
     ensures { Flags (λ h. not (conflicts chart.now.reference.n (group_at chart.now.reference.n chart.now.reference.row.now h) row.entry.row.now))
-        chart.now.reference.n (nodes chart.now.reference.row.now) result }
+        chart.now.reference.n (nodes chart.now.reference.row.now) agrees.new }
 {
+    let mut reached = [NOTHING; TABLE];
+    reaches(chart, row, &mut reached);
     let n = chart.reference.n;
-    let reached = reaches(chart, row);
     mark(
         n,
         nodes(chart.reference.row),
         |v| covers(n, chart.ranks.size[v], chart.start[v], reached[v]),
-    )
+        agrees,
+    );
 }
 
-// Which inner nodes of a row have groups that another row holds, and with which it agrees.
-#[derive(Clone, Copy)]
-pub struct Flagged {
-    pub held: FlagTable,
-    pub agrees: FlagTable,
-}
-
-// Those of a chart's row, for another row with its sizes.
+// For each of them, whether another row, with its sizes, holds its group, and whether it agrees with it.
 #[tactic(auto, using(passes::proofs::StandardRows::standard_long, passes::proofs::StandardRows::standard_few, crate::proofs::Words::standard_most))]
-pub fn sides(chart: &Chart, row: StandardRow, sizes: &Table) -> Flagged
+pub fn sides(
+    chart: &Chart,
+    row: StandardRow,
+    sizes: &Table,
+    held: &mut FlagTable,
+    agrees: &mut FlagTable,
+)
     requires { (row.n ≡ chart.now.reference.n) × Tabled (size_at row.n row.row.now) 0 (nodes row.row.now) sizes.now }
     ensures flags { Flags (λ h. holds chart.now.reference.n (group_at chart.now.reference.n chart.now.reference.row.now h) row.entry.row.now)
-        chart.now.reference.n (nodes chart.now.reference.row.now) result.held }
+        chart.now.reference.n (nodes chart.now.reference.row.now) held.new }
     ensures flags_2 { Flags (λ h. not (conflicts chart.now.reference.n (group_at chart.now.reference.n chart.now.reference.row.now h) row.entry.row.now))
-        chart.now.reference.n (nodes chart.now.reference.row.now) result.agrees }
+        chart.now.reference.n (nodes chart.now.reference.row.now) agrees.new }
 {
-    let reached = reaches(chart, row);
+    let mut reached = [NOTHING; TABLE];
+    reaches(chart, row, &mut reached);
     let size = &chart.ranks.size;
     let n = chart.reference.n;
     let m = nodes(chart.reference.row);
-    Flagged {
-        held: mark(n, m, |v| size[v] == sizes[usize::from(reached[v].node)]),
-        agrees: mark(n, m, |v| covers(n, size[v], chart.start[v], reached[v])),
-    }
+    mark(
+        n,
+        m,
+        |v| size[v] == sizes[usize::from(reached[v].node)],
+        held,
+    );
+    mark(
+        n,
+        m,
+        |v| covers(n, size[v], chart.start[v], reached[v]),
+        agrees,
+    );
 }

@@ -21,20 +21,22 @@ pub struct Trails {
 }
 
 impl Trails {
-    // Those of a row.
-    pub fn of(row: FallingRow) -> Trails
-        ensures { Paths row.entry.n row.entry.row.now (nodes row.entry.row.now) result.head result.next }
+    // Room for the paths of a row: no node goes on.
+    pub const EMPTY: Trails = Trails {
+        head: [0; TABLE],
+        next: [NO_NODE; TABLE],
+    };
+
+    // Those of a row, where no node goes on as yet.
+    pub fn fill(&mut self, row: FallingRow)
+        requires { self.old.next ≡ zeros table_words }
+        ensures { Paths row.entry.n row.entry.row.now (nodes row.entry.row.now) self.new.head self.new.next }
     {
-        let mut trails = Trails {
-            head: [0; TABLE],
-            next: [NO_NODE; TABLE],
-        };
         let n = row.n;
-        trails.head[n] = n as u16;
+        self.head[n] = n as u16;
         for v in n + 1..nodes(row.row) {
-            trails.extend(row, v);
+            self.extend(row, v);
         }
-        trails
     }
 
     // Node v goes on with the path of its parent, or begins one where another child goes on already.

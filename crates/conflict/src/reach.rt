@@ -4,13 +4,13 @@ ghost use Rattle.std.specs.Prelude.{◌≡◌, ◌+◌, ◌<◌, ◌≤◌, leng
 ghost use Rattle.trees.specs.Rows.{nodes};
 ghost use Rattle.trees.specs.Checks.{most_samples};
 ghost use Rattle.trees.specs.Tables.{table_words, entry};
-ghost use Rattle.conflict.specs.Paths.{Paths, Onward};
-ghost use Rattle.conflict.specs.PathProps.{paths_prop};
 ghost use Rattle.conflict.specs.Spans.{up_from, lesser_of};
 ghost use Rattle.conflict.specs.Gathering.{NodeOrNone, Joins, Levelled, Ends};
+ghost use Rattle.conflict.specs.Routes.{first_of, last_of, Below};
 ghost use Rattle.conflict.specs.Gathering.{reach_at, Begins, Seeding, Handed, Gauged};
 
-use crate::paths::{NO_NODE, Trails};
+use crate::paths::NO_NODE;
+use crate::ways::Ways;
 use judge::{StandardRow, nodes};
 use passes::{TABLE, Table, step};
 
@@ -44,21 +44,12 @@ fn lesser_of(u: Reach, t: Reach) -> Reach
     }
 }
 
-// A row, with the first and the last place of each node and the paths of the inner nodes.
-#[derive(Clone, Copy)]
-pub struct Ways<'a> {
-    pub row: StandardRow<'a>,
-    pub ends: &'a mates::Ends,
-    pub trails: &'a Trails,
-    ghost paths: { Paths row.n row.row.now (nodes row.row.now) trails.now.head trails.now.next } by { paths_prop },
-}
-
 impl Ways<'_> {
     // The parent of node x, of which whatever x contains touches x alone.
     #[tactic(auto, using(passes::proofs::StandardRows::standard_few, crate::proofs::Words::standard_words))]
     fn up(&self, x: usize) -> Reach
         requires { x < nodes self.now.row.row.now }
-        ensures { result ≡ up_from self.now.row.row.now (entry self.now.ends.now.first) (entry self.now.ends.now.last) x }
+        ensures { result ≡ up_from self.now.row.row.now (first_of self.now) (last_of self.now) x }
     {
         Reach {
             node: self.row.row[x + 1],
@@ -78,8 +69,8 @@ impl Ways<'_> {
     // What y reaches, brought up to node x where it is below it on one path.
     fn level(&self, x: u16, y: Reach) -> Reach
         requires { (x < nodes self.now.row.row.now)
-            × (x < y.node → Onward self.now.row.n self.now.row.row.now self.now.trails.now.next x y.node) }
-        ensures { Levelled self.now.row.n self.now.row.row.now (entry self.now.ends.now.first) (entry self.now.ends.now.last) x y result }
+            × (x < y.node → Below self.now x y.node) }
+        ensures { Levelled self.now.row.n self.now.row.row.now (first_of self.now) (last_of self.now) x y result }
     {
         if x < y.node {
             return self.up(usize::from(self.trails.next[usize::from(x)]));
@@ -90,9 +81,9 @@ impl Ways<'_> {
     // Two nodes on one path, brought to one level.
     fn settle(&self, x: Reach, y: Reach) -> Reach
         requires { (x.node < nodes self.now.row.row.now) × (y.node < nodes self.now.row.row.now)
-            × (x.node < y.node → Onward self.now.row.n self.now.row.row.now self.now.trails.now.next x.node y.node)
-            × (y.node < x.node → Onward self.now.row.n self.now.row.row.now self.now.trails.now.next y.node x.node) }
-        ensures { Ends self.now.row.n self.now.row.row.now (entry self.now.ends.now.first) (entry self.now.ends.now.last) x y result }
+            × (x.node < y.node → Below self.now x.node y.node)
+            × (y.node < x.node → Below self.now y.node x.node) }
+        ensures { Ends self.now.row.n self.now.row.row.now (first_of self.now) (last_of self.now) x y result }
     {
         let u = self.level(y.node, x);
         let t = self.level(x.node, y);
@@ -104,7 +95,7 @@ impl Ways<'_> {
     fn meet(&self, a: Reach, b: Reach) -> Reach
         requires { (self.now.row.n ≤ a.node) × (a.node < nodes self.now.row.row.now)
             × (self.now.row.n ≤ b.node) × (b.node < nodes self.now.row.row.now) }
-        ensures { Joins self.now.row.n self.now.row.row.now (entry self.now.ends.now.first) (entry self.now.ends.now.last) a b result }
+        ensures { Joins self.now.row.n self.now.row.row.now (first_of self.now) (last_of self.now) a b result }
     {
         let mut x = a;
         let mut y = b;
@@ -126,7 +117,7 @@ impl Ways<'_> {
     fn join(&self, a: Reach, b: Reach) -> Reach
         requires { NodeOrNone self.now.row.n self.now.row.row.now a.node
             × (self.now.row.n ≤ b.node) × (b.node < nodes self.now.row.row.now) }
-        ensures { Joins self.now.row.n self.now.row.row.now (entry self.now.ends.now.first) (entry self.now.ends.now.last) a b result }
+        ensures { Joins self.now.row.n self.now.row.row.now (first_of self.now) (last_of self.now) a b result }
     {
         if a.node == NO_NODE {
             return b;
@@ -136,7 +127,7 @@ impl Ways<'_> {
 
     // What node v of the reference starts with: a sample is reached by its parent, and an inner node has got nothing.
     fn initial(&self, v: usize) -> Reach
-        ensures { Begins self.now.row.n self.now.row.row.now (entry self.now.ends.now.first) (entry self.now.ends.now.last) v result }
+        ensures { Begins self.now.row.n self.now.row.row.now (first_of self.now) (last_of self.now) v result }
     {
         if v < self.row.n {
             return self.up(v);
@@ -145,15 +136,13 @@ impl Ways<'_> {
     }
 
     // What the nodes below m start with.
-    fn seed(&self, m: usize) -> Reaches
+    fn seed(&self, m: usize, reached: &mut Reaches)
         requires { m ≤ table_words }
-        ensures { Seeding self.now.row.n self.now.row.row.now (entry self.now.ends.now.first) (entry self.now.ends.now.last) m result }
+        ensures { Seeding self.now.row.n self.now.row.row.now (first_of self.now) (last_of self.now) m reached.new }
     {
-        let mut reached = [NOTHING; TABLE];
         for v in 0..m {
             reached[v] = self.initial(v);
         }
-        reached
     }
 
     // Node v of the reference hands what it has got to its parent p.
@@ -161,26 +150,24 @@ impl Ways<'_> {
         requires { (v < table_words) × (p < table_words)
             × NodeOrNone self.now.row.n self.now.row.row.now (reach_at reached.old p).node
             × (self.now.row.n ≤ (reach_at reached.old v).node) × ((reach_at reached.old v).node < nodes self.now.row.row.now) }
-        ensures { Handed self.now.row.n self.now.row.row.now (entry self.now.ends.now.first) (entry self.now.ends.now.last) v p
-            reached.old reached.new }
+        ensures { Handed self.now.row.n self.now.row.row.now (first_of self.now) (last_of self.now) v p reached.old reached.new }
     {
         reached[p] = self.join(reached[p], reached[v]);
     }
 
     // What each node of the reference reaches in the row.
     #[tactic(auto, using(passes::proofs::StandardRows::standard_long))]
-    pub fn gather(&self, reference: StandardRow) -> Reaches
+    pub fn gather(&self, reference: StandardRow, reached: &mut Reaches)
         requires { reference.n ≡ self.now.row.n }
-        ensures { Gauged self.now.row.n reference.entry.row.now self.now.row.row.now (entry self.now.ends.now.first)
-            (entry self.now.ends.now.last) result }
+        ensures { Gauged self.now.row.n reference.entry.row.now self.now.row.row.now (first_of self.now) (last_of self.now)
+            reached.new }
     {
         let m = nodes(reference.row);
         let falling = reference.falling();
-        let mut reached = self.seed(m);
+        self.seed(m, reached);
         for i in 0..m - 1 {
             let t = step(falling, m, i);
-            self.hand(t.node, t.up, &mut reached);
+            self.hand(t.node, t.up, reached);
         }
-        reached
     }
 }

@@ -1,4 +1,5 @@
 -- `conflict::reaches`: the places of the row's nodes, their paths, and the pass. Assumes nothing.
+use Rattle.std.proofs.Common.{refl}
 use Rattle.trees.proofs.FallsLaws.{standard_falls}
 use Rattle.trees.proofs.StandardLaws.{standard_to}
 use Rattle.trees.proofs.PlaceLaws.{place_keys}
@@ -9,6 +10,9 @@ pub spread-ends-requires : goal.spread-ends-requires
 spread-ends-requires c =
     let chart = c.args.chart.now in
     rw (c.falling-falling.ensures.samples, c.requires) (place_keys _ _ (standard_falls _ _ (standard_to _ _ chart.reference.standard)) chart.start chart.tables.starts)
+
+pub fill-requires : goal.fill-requires
+fill-requires c = refl
 
 pub returns : goal.returns
 returns c =

@@ -1,7 +1,7 @@
--- `conflict::reach::Ways::settle` brings each of two nodes to the level of the other. Assumes nothing.
+-- `conflict::ways::Ways::settle` brings each of two nodes to the level of the other. Assumes nothing.
 use Rattle.trees.proofs.StandardLaws.{standard_to}
 use Rattle.conflict.specs.GatherLaws.{levelled_ends}
-use Rattle.conflict.proofs.reach.Ways.settle.Goals as goal
+use Rattle.conflict.proofs.ways.Ways.settle.Goals as goal
 
 pub level-u-requires : goal.level-u-requires
 level-u-requires c = (c.requires.1, c.requires.3)

@@ -1,20 +1,20 @@
--- `conflict::reach::Ways::gather` is the pass that joins. Assumes nothing.
+-- `conflict::ways::Ways::gather` is the pass that joins. Assumes nothing.
 use Rattle.std.proofs.Common.{add-one, arith}
 use Rattle.passes.proofs.StandardRows.{standard_over}
 use Rattle.trees.proofs.FallsLaws.{standard_falls, few}
 use Rattle.trees.proofs.StandardLaws.{standard_to}
 use Rattle.conflict.specs.GatherLaws.{gathered_start, next_nodes, gathered_step, gathered_end}
-use Rattle.conflict.proofs.reach.Ways.gather.Goals as goal
+use Rattle.conflict.proofs.ways.Ways.gather.Goals as goal
 
-pub seed-reached-requires : goal.seed-reached-requires
-seed-reached-requires c =
+pub seed-requires : goal.seed-requires
+seed-requires c =
     omega (arith, c.nodes-m.ensures, few _ _ (standard_falls _ _ (standard_to _ _ c.args.reference.standard)))
 
 pub loop-i-init : goal.loop-i-init
 loop-i-init c = (
   omega arith,
   gathered_start _ _ _ (standard_over c.args.reference.standard c.requires) (standard_to _ _ c.args.self.now.row.standard) _ _ _
-      (rw c.nodes-m.ensures at c.seed-reached.ensures),
+      (rw c.nodes-m.ensures at c.seed.ensures),
 )
 
 pub hand-requires : goal.hand-requires

@@ -1,11 +1,11 @@
--- `conflict::reach::Ways::join`: nothing adds nothing, and otherwise two nodes meet. Assumes nothing.
+-- `conflict::ways::Ways::join`: nothing adds nothing, and otherwise two nodes meet. Assumes nothing.
 use mathlib.Core.Logic.{⊎_elim}
 use Prim.Native.Nat.{◌≤◌, ◌<◌}
 use Rattle.trees.specs.Rows.{nodes}
 use Rattle.trees.proofs.StandardLaws.{standard_to}
 use Rattle.conflict.specs.GatherLaws.{joins_none}
 use native.Mathlib.Omega.{arith}
-use Rattle.conflict.proofs.reach.Ways.join.Goals as goal
+use Rattle.conflict.proofs.ways.Ways.join.Goals as goal
 
 pub returns-then-a-eq-NO_NODE : goal.returns-then-a-eq-NO_NODE
 returns-then-a-eq-NO_NODE c = joins_none _ _ (standard_to _ _ c.args.self.now.row.standard) _ _ _ _ (omega arith)

@@ -1,6 +1,6 @@
--- `conflict::reach::Ways::hand` stores what both have got at the parent. Assumes nothing.
+-- `conflict::ways::Ways::hand` stores what both have got at the parent. Assumes nothing.
 use Rattle.std.proofs.Common.{refl}
-use Rattle.conflict.proofs.reach.Ways.hand.Goals as goal
+use Rattle.conflict.proofs.ways.Ways.hand.Goals as goal
 
 pub join-requires : goal.join-requires
 join-requires c = (c.requires.2, c.requires.3, c.requires.4)

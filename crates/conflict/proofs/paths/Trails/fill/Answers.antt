@@ -1,14 +1,11 @@
--- `conflict::paths::Trails::of` adds the inner nodes one by one. Assumes nothing.
-use Rattle.std.proofs.Common.{◌≡◌, refl, arith}
-use Rattle.trees.specs.Lists.{zeros}
+-- `conflict::paths::Trails::fill` adds the inner nodes one by one. Assumes nothing.
+use Rattle.std.proofs.Common.{◌≡◌, arith}
 use Rattle.trees.specs.Rows.{nodes}
-use Rattle.trees.specs.Tables.{table_words}
-use Rattle.trees.proofs.ListLaws.{length_zeros}
 use Rattle.conflict.specs.PathLaws.{paths_start}
-use Rattle.conflict.proofs.paths.Trails.of.Goals as goal
+use Rattle.conflict.proofs.paths.Trails.fill.Goals as goal
 
 pub loop-v-init : goal.loop-v-init
-loop-v-init c = paths_start _ _ c.args.row.falls (zeros table_words) _ (length_zeros table_words) refl
+loop-v-init c = paths_start _ _ c.args.row.falls c.args.self.now.head _ (omega arith) c.requires
 
 pub extend-requires : goal.extend-requires
 extend-requires c = (omega arith, omega (arith, c.nodes-v-end.ensures), c.loop-v.invariant)

@@ -1,4 +1,4 @@
--- `conflict::reach::Ways::meet` walks to one path, and along it to the first node that is above both. Assumes nothing.
+-- `conflict::ways::Ways::meet` walks to one path, and along it to the first node that is above both. Assumes nothing.
 use Prim.Native.Nat.{◌<◌}
 use mathlib.Core.Path.{◌≡◌, sym, ap}
 use native.Mathlib.Omega.{arith}
@@ -11,8 +11,9 @@ use Rattle.conflict.specs.PathLaws.{same_path}
 use Rattle.conflict.specs.Gathering.{Walk}
 use Rattle.conflict.specs.GatherLaws.{walk_start, walk_left, walk_right, left_lower, right_lower}
 use borrow.Author.Rules.{rules}
-use Rattle.conflict.proofs.reach.Ways.meet.Goals.{After-up-x, After-up-y, After-from, After-from-else-h-k}
-use Rattle.conflict.proofs.reach.Ways.meet.Goals as goal
+use Rattle.conflict.specs.Routes.{first_of, last_of}
+use Rattle.conflict.proofs.ways.Ways.meet.Goals.{After-up-x, After-up-y, After-from, After-from-else-h-k}
+use Rattle.conflict.proofs.ways.Ways.meet.Goals as goal
 
 pub begin-h-requires : goal.begin-h-requires
 begin-h-requires c =
@@ -39,7 +40,7 @@ up-y-requires c = (low-right (search rules)).0
 
 -- the walk after a step on the right
 went-right : (u : After-up-y) → let a = u.args in
-    Walk a.self.now.row.n a.self.now.row.row.now (entry a.self.now.ends.now.first) (entry a.self.now.ends.now.last) a.a a.b u.loop-h.x u.up-y.result
+    Walk a.self.now.row.n a.self.now.row.row.now (first_of a.self.now) (last_of a.self.now) a.a a.b u.loop-h.x u.up-y.result
 went-right u =
     let e = u.from.ensures in
     walk_right _ _ (standard_to _ _ u.args.self.now.row.standard) _ _ _ _ _ _ u.requires.1 u.requires.3 u.loop-h.invariant.2 _ _ u.args.self.now.paths u.from.result _
@@ -70,7 +71,7 @@ up-x-requires c = (low-left (search rules)).0
 
 -- the walk after a step on the left
 went-left : (u : After-up-x) → let a = u.args in
-    Walk a.self.now.row.n a.self.now.row.row.now (entry a.self.now.ends.now.first) (entry a.self.now.ends.now.last) a.a a.b u.up-x.result u.loop-h.y
+    Walk a.self.now.row.n a.self.now.row.row.now (first_of a.self.now) (last_of a.self.now) a.a a.b u.up-x.result u.loop-h.y
 went-left u =
     let e = u.from-else-h-k.ensures in
     walk_left _ _ (standard_to _ _ u.args.self.now.row.standard) _ _ _ _ _ _ u.requires.1 u.requires.3 u.loop-h.invariant.2 _ _ u.args.self.now.paths u.from-else-h-k.result _

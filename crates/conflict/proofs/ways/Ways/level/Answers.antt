@@ -1,14 +1,14 @@
--- `conflict::reach::Ways::level` goes on along the path, where there is a way to go. Assumes nothing.
+-- `conflict::ways::Ways::level` goes on along the path, where there is a way to go. Assumes nothing.
 use Rattle.std.proofs.Common.{◌≡◌, ◌∙◌, ap, arith}
 use Rattle.trees.specs.Tables.{entry}
 use Rattle.trees.proofs.StandardLaws.{standard_to}
-use Rattle.conflict.specs.Paths.{Onward}
+use Rattle.conflict.specs.Routes.{Below}
 use Rattle.conflict.specs.GatherLaws.{levelled_stay, levelled_up}
-use Rattle.conflict.proofs.reach.Ways.level.Goals.{After-from-then-x-y, Then-x-y}
-use Rattle.conflict.proofs.reach.Ways.level.Goals as goal
+use Rattle.conflict.proofs.ways.Ways.level.Goals.{After-from-then-x-y, Then-x-y}
+use Rattle.conflict.proofs.ways.Ways.level.Goals as goal
 
 onward : (c : Then-x-y) → let a = c.args in
-    Onward a.self.now.row.n a.self.now.row.row.now a.self.now.trails.now.next a.x a.y.node
+    Below a.self.now a.x a.y.node
 onward c = c.requires.1 (omega arith)
 
 -- the node of which the parent is taken
