@@ -113,10 +113,12 @@ pub fn round(
     ensures { Rounded n weight row.now candidates.now counter.old
         out.new fresh.new }
 {
-    let chart = Chart::of(n, candidates);
-    let run = Chart::of(n, row);
+    let mut chart = Chart::EMPTY;
+    let mut run = Chart::EMPTY;
     let mut keep = [false; TABLE];
     let mut enter = [false; TABLE];
+    chart.fill(n, candidates);
+    run.fill(n, row);
     count_run(
         n,
         candidates,

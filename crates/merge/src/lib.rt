@@ -246,23 +246,23 @@ fn write_row(n: usize, a: &Ladder, b: &Ladder, parents: &Table, c: usize, out: &
 }
 
 // Writes the row of the groups that are kept of two standard rows, where these agree and the whole is among them.
-// It answers at which node each kept group of the first row has come.
-fn merge_ranked(n: usize, a: &Side, b: &Side, out: &mut [u16]) -> Table
+// It tells at which node each kept group of the first row has come.
+fn merge_ranked(n: usize, a: &Side, b: &Side, num: &mut Table, out: &mut [u16])
     requires { Mergeable n a.now.row.now a.now.keep.now b.now.row.now b.now.keep.now
         × Ranked n a.now.row.now a.now.ranks.now.size a.now.ranks.now.low
         × Ranked n b.now.row.now b.now.ranks.now.size b.now.ranks.now.low × (length out.old ≡ row_words n) }
     ensures { (out.new ≡ row_of n (merged n a.now.row.now a.now.keep.now b.now.row.now b.now.keep.now))
-        × Settled n a.now.row.now a.now.keep.now result out.new }
+        × Settled n a.now.row.now a.now.keep.now num.new out.new }
 {
-    let mut num_a: Table = [0; TABLE];
     let mut num_b: Table = [0; TABLE];
     let mut mins: Table = [0; TABLE];
-    let c = lockstep(n, a, b, &mut num_a, &mut num_b, &mut mins);
-    raise(n, a.row, &mut num_a);
+    *num = [0; TABLE];
+    let c = lockstep(n, a, b, num, &mut num_b, &mut mins);
+    raise(n, a.row, num);
     raise(n, b.row, &mut num_b);
     let first = Ladder {
         row: a.row,
-        up: &num_a,
+        up: num,
     };
     let second = Ladder {
         row: b.row,
@@ -270,7 +270,6 @@ fn merge_ranked(n: usize, a: &Side, b: &Side, out: &mut [u16]) -> Table
     };
     parents(n, &first, &second, c, &mut mins);
     write_row(n, &first, &second, &mins, c, out);
-    num_a
 }
 
 // The same row, and what the kept nodes of the first row have in a table is carried over to where they have come.
@@ -281,7 +280,8 @@ pub fn merge_carried(n: usize, a: &Side, b: &Side, from: &Table, to: &mut Table,
     ensures { CarriedOver n a.now.row.now a.now.keep.now b.now.row.now b.now.keep.now
         from.now to.old to.new out.new }
 {
-    let num = merge_ranked(n, a, b, out);
+    let mut num: Table = [0; TABLE];
+    merge_ranked(n, a, b, &mut num, out);
     carry(n, nodes(a.row), a.keep, &num, from, to);
 }
 
@@ -297,15 +297,20 @@ pub fn merge(
     requires { Mergeable n a.now keep_a.now b.now keep_b.now × (length out.old ≡ row_words n) }
     ensures { out.new ≡ row_of n (merged n a.now keep_a.now b.now keep_b.now) }
 {
+    let mut ranks_a = Ranks::EMPTY;
+    let mut ranks_b = Ranks::EMPTY;
+    let mut num: Table = [0; TABLE];
+    ranks_a.fill(n, a);
+    ranks_b.fill(n, b);
     let first = Side {
         row: a,
-        ranks: &Ranks::of(n, a),
+        ranks: &ranks_a,
         keep: keep_a,
     };
     let second = Side {
         row: b,
-        ranks: &Ranks::of(n, b),
+        ranks: &ranks_b,
         keep: keep_b,
     };
-    merge_ranked(n, &first, &second, out);
+    merge_ranked(n, &first, &second, &mut num, out);
 }

@@ -3,13 +3,9 @@ use Rattle.trees.specs.Tables.{entry}
 use Rattle.trees.proofs.ClimbingLaws.{climb_on, climb_lower, climb_stop}
 use Rattle.trees.specs.Rows.{nodes}
 use native.Mathlib.Omega.{arith}
-use mathlib.Core.Path.{refl, sym, ◌∙◌}
+use mathlib.Core.Path.{sym, ◌∙◌}
 use Prim.Native.Nat.{◌≤◌}
-use borrow.Author.Rules.{rules}
 use Rattle.merge.proofs.Ladder.climb.Goals as goal
-
-pub loop-u-init : goal.loop-u-init
-loop-u-init c = (refl, search rules, search rules)
 
 pub loop-u-smaller : goal.loop-u-smaller
 loop-u-smaller c =

@@ -21,8 +21,3 @@ offset_bounds-self-v c = omega (arith, place-fits c)
 
 pub bounds-self-v : goal.bounds-self-v
 bounds-self-v c = omega (arith, place-fits (goal.at.bounds-self-v c).After-climb-v)
-
-pub returns : goal.returns
-returns c =
-    let e = rw c.from.ensures at c.climb-v.ensures in
-    record { stored = rw e; number = rw e }
