@@ -17,7 +17,7 @@ use crate::paths::Trails;
 use crate::reach::{NOTHING, Reach, Reaches};
 use crate::ways::Ways;
 use judge::{StandardRow, nodes};
-use mates::{Chart, spread};
+use mates::{Chart, Ends};
 use passes::{TABLE, Table};
 
 // A flag for each node.
@@ -26,11 +26,12 @@ pub type FlagTable = [bool; TABLE];
 // What each node of a chart's row reaches in another row.
 fn reaches(chart: &Chart, row: StandardRow, reached: &mut Reaches)
     requires { row.n ≡ chart.now.reference.n }
-    ensures { Reached chart.now.reference.n chart.now.reference.row.now row.entry.row.now (entry chart.now.start) reached.new }
+    ensures { Reached chart.now.reference.n chart.now.reference.row.now row.entry.row.now (entry chart.now.places.now.start) reached.new }
 {
     let falling = row.falling();
-    let ends = spread(falling, &chart.start);
+    let mut ends = Ends::EMPTY;
     let mut trails = Trails::EMPTY;
+    ends.fill(falling, &chart.places.start);
     trails.fill(falling);
     let ways = Ways {
         row,
@@ -60,7 +61,7 @@ fn mark<F: Fn(usize) -> bool>(n: usize, m: usize, test: F, flags: &mut FlagTable
 }
 
 // For each inner node of a chart's row, whether another row agrees with its group.
-#[tactic(auto, using(passes::proofs::StandardRows::standard_long, passes::proofs::StandardRows::standard_few, crate::proofs::Words::standard_most))]
+#[tactic(auto, using(passes::proofs::StandardRows::standard_rows))]
 pub fn agreements(chart: &Chart, row: StandardRow, agrees: &mut FlagTable)
     requires { row.n ≡ chart.now.reference.n }
     ensures { Flags (λ h. not (conflicts chart.now.reference.n (group_at chart.now.reference.n chart.now.reference.row.now h) row.entry.row.now))
@@ -72,13 +73,13 @@ pub fn agreements(chart: &Chart, row: StandardRow, agrees: &mut FlagTable)
     mark(
         n,
         nodes(chart.reference.row),
-        |v| covers(n, chart.ranks.size[v], chart.start[v], reached[v]),
+        |v| covers(n, chart.places.ranks.size[v], chart.places.start[v], reached[v]),
         agrees,
     );
 }
 
 // For each of them, whether another row, with its sizes, holds its group, and whether it agrees with it.
-#[tactic(auto, using(passes::proofs::StandardRows::standard_long, passes::proofs::StandardRows::standard_few, crate::proofs::Words::standard_most))]
+#[tactic(auto, using(passes::proofs::StandardRows::standard_rows))]
 pub fn sides(
     chart: &Chart,
     row: StandardRow,
@@ -94,7 +95,7 @@ pub fn sides(
 {
     let mut reached = [NOTHING; TABLE];
     reaches(chart, row, &mut reached);
-    let size = &chart.ranks.size;
+    let size = &chart.places.ranks.size;
     let n = chart.reference.n;
     let m = nodes(chart.reference.row);
     mark(
@@ -106,7 +107,7 @@ pub fn sides(
     mark(
         n,
         m,
-        |v| covers(n, size[v], chart.start[v], reached[v]),
+        |v| covers(n, size[v], chart.places.start[v], reached[v]),
         agrees,
     );
 }

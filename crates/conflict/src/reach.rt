@@ -46,7 +46,7 @@ fn lesser_of(u: Reach, t: Reach) -> Reach
 
 impl Ways<'_> {
     // The parent of node x, of which whatever x contains touches x alone.
-    #[tactic(auto, using(passes::proofs::StandardRows::standard_few, crate::proofs::Words::standard_words))]
+    #[tactic(auto, using(passes::proofs::StandardRows::standard_nodes))]
     fn up(&self, x: usize) -> Reach
         requires { x < nodes self.now.row.row.now }
         ensures { result ≡ up_from self.now.row.row.now (first_of self.now) (last_of self.now) x }
@@ -126,6 +126,7 @@ impl Ways<'_> {
     }
 
     // What node v of the reference starts with: a sample is reached by its parent, and an inner node has got nothing.
+    #[tactic(auto, using(passes::proofs::StandardRows::standard_nodes))]
     fn initial(&self, v: usize) -> Reach
         ensures { Begins self.now.row.n self.now.row.row.now (first_of self.now) (last_of self.now) v result }
     {
@@ -156,7 +157,7 @@ impl Ways<'_> {
     }
 
     // What each node of the reference reaches in the row.
-    #[tactic(auto, using(passes::proofs::StandardRows::standard_long))]
+    #[tactic(auto, using(passes::proofs::StandardRows::standard_rows))]
     pub fn gather(&self, reference: StandardRow, reached: &mut Reaches)
         requires { reference.n ≡ self.now.row.n }
         ensures { Gauged self.now.row.n reference.entry.row.now self.now.row.row.now (first_of self.now) (last_of self.now)

@@ -14,30 +14,37 @@ use passes::{Ranks, TABLE, Table, least, starts};
 // 0 is a sample, and so no inner node.
 pub const NO_MATE: u16 = 0;
 
-// A reference row, and what is made of it once for many calls of `mates`: ranks, and the starts of intervals.
+// What is made once of a reference row for many calls of `mates`: ranks, and the starts of intervals.
+#[derive(Clone, Copy)]
+pub struct Places {
+    pub ranks: Ranks,
+    pub start: Table,
+}
+
+impl Places {
+    // Room for the places of a row.
+    pub const EMPTY: Places = Places {
+        ranks: Ranks::EMPTY,
+        start: [0; TABLE],
+    };
+
+    // Those of a reference row.
+    pub fn fill(&mut self, reference: StandardRow)
+        ensures { Tables reference.entry.n reference.entry.row.now self.new.ranks.size self.new.ranks.low self.new.start }
+    {
+        let row = reference.falling();
+        let mut off: Table = [0; TABLE];
+        self.ranks.fill_with_offsets(row, &mut off);
+        starts(row, &off, &mut self.start);
+    }
+}
+
+// A reference row and its places.
 #[derive(Clone, Copy)]
 pub struct Chart<'a> {
     pub reference: StandardRow<'a>,
-    pub ranks: Ranks,
-    pub start: Table,
-    ghost tables: { Tables reference.n reference.row.now ranks.size ranks.low start },
-}
-
-impl<'a> Chart<'a> {
-    // The chart of a reference row.
-    pub fn of(reference: StandardRow<'a>) -> Chart<'a>
-        ensures { result.reference ≡ reference.entry }
-    {
-        let mut off: Table = [0; TABLE];
-        let row = reference.falling();
-        let ranks = Ranks::with_offsets(row, &mut off);
-        let start = starts(row, &off);
-        Chart {
-            reference,
-            ranks,
-            start,
-        }
-    }
+    pub places: &'a Places,
+    ghost tables: { Tables reference.n reference.row.now places.now.ranks.size places.now.ranks.low places.now.start },
 }
 
 // The first and the last place of each node's group, by the places of a reference row; the last is counted from the end.
@@ -45,6 +52,26 @@ impl<'a> Chart<'a> {
 pub struct Ends {
     pub first: Table,
     pub last: Table,
+}
+
+impl Ends {
+    // Room for the ends of a row's groups.
+    pub const EMPTY: Ends = Ends {
+        first: [0; TABLE],
+        last: [0; TABLE],
+    };
+
+    // Those of a row's groups.
+    pub fn fill(&mut self, row: FallingRow, start: &Table)
+        requires { Keys row.n start.now }
+        ensures { Tabled (least_at row.entry.n row.entry.row.now (entry start.now)) 0 (nodes row.entry.row.now) self.new.first
+            × Tabled (least_at row.entry.n row.entry.row.now (from_end row.entry.n (entry start.now))) 0 (nodes row.entry.row.now) self.new.last }
+    {
+        let mut backward: Table = [0; TABLE];
+        all_from_end(row.n, start, &mut backward);
+        least(row, start, &mut self.first);
+        least(row, &backward, &mut self.last);
+    }
 }
 
 // The first node from b on whose rank is k or more, or else m.
@@ -56,7 +83,7 @@ fn advance(n: usize, m: usize, ranks: &Ranks, b: usize, k: usize) -> usize
 }
 
 // For each inner node of a chart's row its candidate in another row, by ranks that rise in both: one walk in lockstep.
-#[tactic(auto, using(passes::proofs::StandardRows::standard_long, passes::proofs::StandardRows::standard_few))]
+#[tactic(auto, using(passes::proofs::StandardRows::standard_rows))]
 fn candidates(chart: &Chart, row: StandardRow, other: &Ranks, mate: &mut Table)
     requires { (row.n ≡ chart.now.reference.n) × Ranked row.n row.row.now other.now.size other.now.low }
     ensures { Tabled (candidate_of chart.now.reference.n chart.now.reference.row.now row.entry.row.now) chart.now.reference.n
@@ -67,7 +94,7 @@ fn candidates(chart: &Chart, row: StandardRow, other: &Ranks, mate: &mut Table)
     let others = nodes(row.row);
     let mut b = n;
     for a in n..m {
-        let k = chart.ranks.rank(n, a);
+        let k = chart.places.ranks.rank(n, a);
         b = advance(n, others, other, b, k);
         mate[a] = b as u16;
     }
@@ -83,7 +110,7 @@ struct Beside<'a> {
     ends: &'a Ends,
     ghost same: { row.n ≡ chart.now.reference.n },
     ghost counted: { m ≡ nodes row.row.now },
-    ghost spread: { Spread chart.now.reference.n chart.now.reference.row.now row.row.now chart.now.ranks.size chart.now.start ranks.now.size ends.now.first
+    ghost spread: { Spread chart.now.reference.n chart.now.reference.row.now row.row.now chart.now.places.now.ranks.size chart.now.places.now.start ranks.now.size ends.now.first
         ends.now.last },
 }
 
@@ -91,23 +118,23 @@ impl Beside<'_> {
     // Whether node b has the group of node a of the chart: its size, and its first and last place in the interval of a.
     fn fits(&self, a: usize, b: usize) -> bool
         requires { (a < table_words) × (b < table_words) }
-        ensures { result ≡ fitting self.now.chart.now.reference.n (entry self.now.chart.now.ranks.size a) (entry self.now.chart.now.start a)
+        ensures { result ≡ fitting self.now.chart.now.reference.n (entry self.now.chart.now.places.now.ranks.size a) (entry self.now.chart.now.places.now.start a)
             (entry self.now.ranks.now.size b) (entry self.now.ends.now.first b) (entry self.now.ends.now.last b) }
     {
         let n = self.chart.reference.n;
-        let size = self.chart.ranks.size[a];
-        let start = self.chart.start[a];
+        let size = self.chart.places.ranks.size[a];
+        let start = self.chart.places.start[a];
         let end = usize::from(start) + usize::from(size);
         (size == self.ranks.size[b])
             & ((start <= self.ends.first[b]) & (n <= end + usize::from(self.ends.last[b])))
     }
 
     // The candidate b of node a of the chart, where it is a node and fits.
-    #[tactic(auto, using(passes::proofs::StandardRows::standard_few))]
+    #[tactic(auto, using(passes::proofs::StandardRows::standard_rows))]
     fn confirm(&self, a: usize, b: u16) -> u16
         requires { a < table_words }
-        ensures { result ≡ confirmed self.now.m b (fitting self.now.chart.now.reference.n (entry self.now.chart.now.ranks.size a)
-            (entry self.now.chart.now.start a) (entry self.now.ranks.now.size b) (entry self.now.ends.now.first b) (entry self.now.ends.now.last b)) }
+        ensures { result ≡ confirmed self.now.m b (fitting self.now.chart.now.reference.n (entry self.now.chart.now.places.now.ranks.size a)
+            (entry self.now.chart.now.places.now.start a) (entry self.now.ranks.now.size b) (entry self.now.ends.now.first b) (entry self.now.ends.now.last b)) }
     {
         let x = usize::from(b);
         if x < self.m && self.fits(a, x) {
@@ -119,7 +146,7 @@ impl Beside<'_> {
 }
 
 // The candidates that fit.
-#[tactic(auto, using(passes::proofs::StandardRows::standard_long, passes::proofs::StandardRows::standard_few))]
+#[tactic(auto, using(passes::proofs::StandardRows::standard_rows))]
 fn confirmations(beside: &Beside, mate: &mut Table)
     requires { Tabled (candidate_of beside.now.chart.now.reference.n beside.now.chart.now.reference.row.now beside.now.row.row.now)
         beside.now.chart.now.reference.n (nodes beside.now.chart.now.reference.row.now) mate.old }
@@ -150,31 +177,18 @@ fn all_from_end(n: usize, start: &Table, t: &mut Table)
     }
 }
 
-// The ends of each node's group, by the places of a reference row.
-pub fn spread(row: FallingRow, start: &Table) -> Ends
-    requires { Keys row.n start.now }
-    ensures { Tabled (least_at row.entry.n row.entry.row.now (entry start.now)) 0 (nodes row.entry.row.now) result.first
-        × Tabled (least_at row.entry.n row.entry.row.now (from_end row.entry.n (entry start.now))) 0 (nodes row.entry.row.now) result.last }
-{
-    let mut backward: Table = [0; TABLE];
-    all_from_end(row.n, start, &mut backward);
-    Ends {
-        first: least(row, start),
-        last: least(row, &backward),
-    }
-}
-
 // For each inner node of a chart's row the node of another row that has the same group, or NO_MATE.
-pub fn mates(chart: &Chart, row: StandardRow) -> Table
+pub fn mates(chart: &Chart, row: StandardRow, mate: &mut Table)
     requires { row.n ≡ chart.now.reference.n }
     ensures { Tabled (mate_of chart.now.reference.n chart.now.reference.row.now row.entry.row.now) chart.now.reference.n
-        (nodes chart.now.reference.row.now) result }
+        (nodes chart.now.reference.row.now) mate.new }
 {
-    let mut mate: Table = [0; TABLE];
     let falling = row.falling();
-    let ranks = Ranks::of(falling);
-    candidates(chart, row, &ranks, &mut mate);
-    let ends = spread(falling, &chart.start);
+    let mut ranks = Ranks::EMPTY;
+    let mut ends = Ends::EMPTY;
+    ranks.fill(falling);
+    candidates(chart, row, &ranks, mate);
+    ends.fill(falling, &chart.places.start);
     let beside = Beside {
         chart,
         row,
@@ -182,6 +196,5 @@ pub fn mates(chart: &Chart, row: StandardRow) -> Table
         ranks: &ranks,
         ends: &ends,
     };
-    confirmations(&beside, &mut mate);
-    mate
+    confirmations(&beside, mate);
 }

@@ -33,7 +33,7 @@ pub struct Side<'a> {
 
 impl Side<'_> {
     // The first node from v on that is kept, or the number of nodes.
-    #[tactic(auto, using(passes::proofs::StandardRows::standard_long, passes::proofs::StandardRows::standard_few))]
+    #[tactic(auto, using(passes::proofs::StandardRows::standard_rows))]
     fn next_kept(&self, v: usize) -> usize
         requires { v ≤ nodes self.now.row.row.now }
         ensures { Next self.now.keep.now v (nodes self.now.row.row.now) result }
@@ -48,7 +48,7 @@ impl Side<'_> {
     }
 
     // The rank of node v, and after the last node a number greater than every rank: a None would come before all.
-    #[tactic(auto, using(passes::proofs::StandardRows::standard_long, passes::proofs::StandardRows::standard_few))]
+    #[tactic(auto, using(passes::proofs::StandardRows::standard_rows))]
     fn rank_or_end(&self, v: usize) -> usize
         ensures { result ≡ rank_or_end self.now.row.n (nodes self.now.row.row.now) self.now.ranks.now.size self.now.ranks.now.low v }
     {
@@ -59,7 +59,7 @@ impl Side<'_> {
     }
 
     // If `taken`, gives node v the number c and answers the next node that is kept; otherwise answers v.
-    #[tactic(auto, using(passes::proofs::StandardRows::standard_few))]
+    #[tactic(auto, using(passes::proofs::StandardRows::standard_rows))]
     fn give(&self, num: &mut Table, v: usize, c: usize, taken: bool) -> usize
         requires { (c < table_words) × (taken ≡ true → v < nodes self.now.row.row.now) }
         ensures { Given num.old self.now.keep.now v (nodes self.now.row.row.now) c taken num.new result }
@@ -102,14 +102,8 @@ fn choose_next(a: &Side, x: usize, b: &Side, y: usize) -> Choice
 
 // Numbers the kept groups of both sides in their common order, from the number of samples on, with each number's
 // smallest sample, and answers the first number that is left.
-#[tactic(auto, using(passes::proofs::StandardRows::standard_long))]
-fn lockstep(
-    a: &Side,
-    b: &Side,
-    num_a: &mut Table,
-    num_b: &mut Table,
-    mins: &mut Table,
-) -> usize
+#[tactic(auto, using(passes::proofs::StandardRows::standard_nodes))]
+fn lockstep(a: &Side, b: &Side, num_a: &mut Table, num_b: &mut Table, mins: &mut Table) -> usize
     requires { Mergeable a.now.row.n a.now.row.row.now a.now.keep.now b.now.row.row.now b.now.keep.now
         × (b.now.row.n ≡ a.now.row.n) × (num_a.old ≡ blank) × (num_b.old ≡ blank) }
     ensures { Numbered a.now.row.n a.now.row.row.now a.now.keep.now b.now.row.row.now b.now.keep.now
@@ -140,7 +134,7 @@ fn own_or(own: u16, other: u16) -> u16
 }
 
 // Each node that is not kept takes its parent's number, so that each has that of the nearest kept node at or above it.
-#[tactic(auto, using(passes::proofs::StandardRows::standard_long, crate::proofs::Words::standard_most))]
+#[tactic(auto, using(passes::proofs::StandardRows::standard_nodes))]
 fn raise(row: StandardRow, num: &mut Table)
     ensures { Raised row.entry.n row.entry.row.now num.old num.new }
 {
@@ -159,6 +153,7 @@ struct Ladder<'a> {
 
 impl Ladder<'_> {
     // The first node from v upwards that has a number below i.
+    #[tactic(auto, using(passes::proofs::StandardRows::standard_nodes))]
     fn climb(&self, i: usize, v: usize) -> usize
         requires { (entry self.now.up.now self.now.row.n < i) × (self.now.row.n ≤ v) × (v < nodes self.now.row.row.now) }
         ensures { result ≡ climbed (nodes self.now.row.row.now) self.now.row.row.now self.now.up.now i v }
@@ -183,6 +178,7 @@ impl Ladder<'_> {
 }
 
 // Puts each sample's place at its parent.
+#[tactic(auto, using(passes::proofs::StandardRows::standard_nodes))]
 fn start(row: StandardRow, places: &mut [u16; MOST_SAMPLES])
     ensures { Tabled (parent row.entry.row.now) 0 row.entry.n places.new }
 {
@@ -212,6 +208,7 @@ fn parents(a: &Ladder, b: &Ladder, c: usize, mins: &mut Table)
 }
 
 // Word w of the merged row.
+#[tactic(auto, using(passes::proofs::StandardRows::standard_nodes))]
 fn word(a: &Ladder, b: &Ladder, parents: &Table, c: usize, w: usize) -> u16
     requires { (b.now.row.n ≡ a.now.row.n) × (c < row_words a.now.row.n) }
     ensures { result ≡ word_of a.now.row.n a.now.row.row.now a.now.up.now b.now.row.row.now b.now.up.now parents.now c w }
@@ -268,7 +265,7 @@ fn merge_ranked(a: &Side, b: &Side, num: &mut Table, out: &mut [u16])
 }
 
 // The same row, and what the kept nodes of the first row have in a table is carried over to where they have come.
-#[tactic(auto, using(passes::proofs::StandardRows::standard_long))]
+#[tactic(auto, using(passes::proofs::StandardRows::standard_rows))]
 pub fn merge_carried(a: &Side, b: &Side, from: &Table, to: &mut Table, out: &mut [u16])
     requires { Mergeable a.now.row.n a.now.row.row.now a.now.keep.now b.now.row.row.now b.now.keep.now
         × (b.now.row.n ≡ a.now.row.n) × (length out.old ≡ row_words a.now.row.n) }
@@ -291,9 +288,11 @@ pub fn merge(
     requires { Mergeable a.n a.row.now keep_a.now b.row.now keep_b.now × (b.n ≡ a.n) × (length out.old ≡ row_words a.n) }
     ensures { out.new ≡ row_of a.entry.n (merged a.entry.n a.entry.row.now keep_a.now b.entry.row.now keep_b.now) }
 {
-    let ranks_a = Ranks::of(a.falling());
-    let ranks_b = Ranks::of(b.falling());
+    let mut ranks_a = Ranks::EMPTY;
+    let mut ranks_b = Ranks::EMPTY;
     let mut num: Table = [0; TABLE];
+    ranks_a.fill(a.falling());
+    ranks_b.fill(b.falling());
     let first = Side {
         row: a,
         ranks: &ranks_a,

@@ -6,11 +6,10 @@ use mathlib.Core.List.{List}
 use native.Mathlib.Omega.{arith}
 use native.Mathlib.Numerals.{add-one}
 use lib.Dec.{eqb}
-use lib.ListN.{length, get_or, set, length-set, take, drop, replicate, length-replicate, get_or-append, get_or-replicate}
-use Rattle.std.proofs.lemmas.List.{get_or-append_right, get_or-drop, get_or-take, length-take-le}
+use lib.ListN.{length, get_or, set, take, replicate, length-replicate, get_or-append, get_or-replicate}
+use Rattle.std.proofs.lemmas.List.{length-append, get_or-append_right, get_or-take, length-take-le}
 use borrow.Rule.Slice.PartMut.{put_mid}
 use mathlib.Core.List.{◌++◌}
-use Rattle.trees.specs.Lists.{zeros}
 use Rattle.trees.proofs.NeverLaws.{side}
 use mathlib.Core.Logic.{◌⊎◌, inl, inr}
 use lib.Seq.{get_or-set_same, get_or-set_other}
@@ -35,34 +34,33 @@ pub record Adding (n : ℕ) (r : List ℕ) (d : ℕ) (t off : List ℕ) : Type 0
 
 -- ---- what a pass starts with
 
--- a table of two parts: the samples' keys, and then e
-seeded_parts : (n m e : ℕ) (k : ℕ → ℕ) (x y : List ℕ) → length x ≡ n → ((s : ℕ) → s < n → get_or x s 0 ≡ k s)
-    → ((v : ℕ) → n ≤ v → v < m → get_or y (v - n) 0 ≡ e) → Tabled (seeded n k e) 0 m (x ++ y)
-seeded_parts n m e k x y l f g = record { is = λ v a b. go v b (side n v) }
-  where
-    go : (v : ℕ) → v < m → (v < n) ⊎ (n ≤ v) → get_or (x ++ y) v 0 ≡ seeded n k e v
-    go v b (inl h) = rw (lt-ltb v n h) (get_or-append x y 0 v (omega arith) ∙ f v h)
-    go v b (inr h) = rw (le-ltb v n h) (get_or-append_right x y n v 0 l h ∙ g v h b)
+-- a table whose first n words were written, the samples' keys, and then those up to w, each of them e
+module _ (n w m : ℕ) (old y : List ℕ) (all : w ≡ m) where
+  seeded_twice : (e : ℕ) (k : ℕ → ℕ) (x : List ℕ) → length x ≡ n → ((s : ℕ) → s < n → get_or x s 0 ≡ k s) → y ≡ replicate (w - n) e
+      → Tabled (seeded n k e) 0 m (put_mid n (w - n) (x ++ old) y)
+  seeded_twice e k x l f a = record { is = λ v b c. go v c (side n v) }
+    where
+      below : length (take n (x ++ old)) ≡ n
+      below = length-take-le n (x ++ old) (rw length-append (omega arith))
 
-pub seeded_ones : (n m : ℕ) (x : List ℕ) → m ≤ table_words → x ≡ replicate n 1 → Tabled (seeded n one 0) 0 m (x ++ drop n (zeros table_words))
-seeded_ones n m x h e = rw e (seeded_parts n m 0 one (replicate n 1) (drop n (zeros table_words)) (length-replicate n 1) (λ s l. get_or-replicate n s 1 0 l)
-    (λ v a b. get_or-drop n (zeros table_words) (v - n) 0 ∙ get_or-replicate table_words (n + (v - n)) 0 0 (omega arith)))
+      go : (v : ℕ) → v < m → (v < n) ⊎ (n ≤ v) → get_or (put_mid n (w - n) (x ++ old) y) v 0 ≡ seeded n k e v
+      go v c (inl h) = rw (lt-ltb v n h)
+          (get_or-append (take n (x ++ old)) _ 0 v (omega (arith, below)) ∙ get_or-take n (x ++ old) v 0 h ∙ get_or-append x old 0 v (omega arith) ∙ f v h)
+      go v c (inr h) = rw (le-ltb v n h) (get_or-append_right (take n (x ++ old)) _ n v 0 below h
+          ∙ get_or-append y _ 0 (v - n) (rw (a, length-replicate) (omega arith)) ∙ rw a (get_or-replicate (w - n) (v - n) e 0 (omega arith)))
 
-pub seeded_keys : (n m : ℕ) (key x : List ℕ) → n ≤ m → m ≤ table_words → length key ≡ table_words → x ≡ replicate (table_words - n) root_mark
-    → Tabled (seeded n (entry key) root_mark) 0 m (put_mid n (table_words - n) key x)
-seeded_keys n m key x k h l e = rw e (seeded_parts n m root_mark (entry key) (take n key) _ (length-take-le n key (omega arith)) (λ s i. get_or-take n key s 0 i)
-    (λ v a b. get_or-append (replicate (table_words - n) root_mark) _ 0 (v - n) (rw length-replicate (omega arith))
-    ∙ get_or-replicate (table_words - n) (v - n) root_mark 0 (omega arith)))
+  pub seeded_ones : (x : List ℕ) → x ≡ replicate n 1 → y ≡ replicate (w - n) 0 → Tabled (seeded n one 0) 0 m (put_mid n (w - n) (x ++ old) y)
+  seeded_ones x e a = seeded_twice 0 one x (rw (e, length-replicate)) (λ s h. rw e (get_or-replicate n s 1 0 h)) a
 
--- a table that one write made is as long as before
-kept_long : (t t' : List ℕ) (i x : ℕ) → length t' ≡ table_words → t' ≡ set t i x → length t ≡ table_words
-kept_long t t' i x l a = omega (arith, ap length a, length-set {A = ℕ})
+  pub seeded_keys : (key x : List ℕ) → n ≤ length key → x ≡ take n key → y ≡ replicate (w - n) root_mark
+      → Tabled (seeded n (entry key) root_mark) 0 m (put_mid n (w - n) (x ++ old) y)
+  seeded_keys key x l e a = seeded_twice root_mark (entry key) x (rw e (length-take-le n key l)) (λ s h. rw e (get_or-take n key s 0 h)) a
 
 module _ (n : ℕ) (r : List ℕ) (ok : Falls n r) where
   pub passing_step : (op : ℕ → ℕ → ℕ) (e : ℕ) → Folds op e → (k : ℕ → ℕ) (d : ℕ) (t t' : List ℕ) (v p : ℕ) → d + 1 < nodes r → Stepped n r d v p
-      → length t' ≡ table_words → t' ≡ set t p (op (get_or t p 0) (get_or t v 0)) → Stage n r op e k d t → Stage n r op e k (d + 1) t'
+      → length t ≡ table_words → t' ≡ set t p (op (get_or t p 0) (get_or t v 0)) → Stage n r op e k d t → Stage n r op e k (d + 1) t'
   passing_step op e f k d t t' v p h x l a i =
-      rw (a, add-one, x.up, x.is) (stage_step n r ok op e f k d t (omega arith) (omega (arith, few n r ok, kept_long t t' p _ l a)) i)
+      rw (a, add-one, x.up, x.is) (stage_step n r ok op e f k d t (omega arith) (omega (arith, few n r ok, l)) i)
 
   -- ---- sizes and offsets
 
@@ -86,12 +84,12 @@ module _ (n : ℕ) (r : List ℕ) (ok : Falls n r) where
       there : (i : ℕ) → i < suc d → (i ≡ d → ⊥) → get_or (set t (node n r d) x) (node n r i) 0 ≡ offset_at n r i
       there i k q = get_or-set_other t (node n r d) (node n r i) x 0 (λ s. q (due_one n r ok i d (omega arith) (omega arith) s)) ∙ o.at i (omega arith)
 
-  pub adding_step : (d : ℕ) (t off t' off' : List ℕ) (v p : ℕ) → d + 1 < nodes r → Stepped n r d v p → length t' ≡ table_words
-      → length off' ≡ table_words → t' ≡ set t p (get_or t p 0 + get_or t v 0) → off' ≡ set off v (get_or t p 0) → Adding n r d t off
+  pub adding_step : (d : ℕ) (t off t' off' : List ℕ) (v p : ℕ) → d + 1 < nodes r → Stepped n r d v p → length t ≡ table_words
+      → length off ≡ table_words → t' ≡ set t p (get_or t p 0 + get_or t v 0) → off' ≡ set off v (get_or t p 0) → Adding n r d t off
       → Adding n r (d + 1) t' off'
   adding_step d t off t' off' v p h x l k a b i = record {
     sums = passing_step ◌+◌ 0 adds one d t t' v p h x l a i.sums;
-    offs = rw (b, add-one, x.is) (offsets_more d off (get_or t p 0) (omega arith) (kept_long off off' v _ k b) (adding_room d t off v p h x i).0 i.offs);
+    offs = rw (b, add-one, x.is) (offsets_more d off (get_or t p 0) (omega arith) k (adding_room d t off v p h x i).0 i.offs);
   }
 
   pub adding_end : (t off : List ℕ) → Adding n r (nodes r - 1) t off → Sized n r t off
@@ -135,7 +133,7 @@ module _ (n : ℕ) (r : List ℕ) (ok : Falls n r) where
     kept : (u : ℕ) → suc j ≤ due n r u → get_or (set t v (get_or t p 0 + o)) u 0 ≡ get_or t u 0
     kept u k = get_or-set_other t v u (get_or t p 0 + o) 0 (later u k)
 
-    pub laying_step : (t' : List ℕ) → length t' ≡ table_words → t' ≡ set t v (get_or t p 0 + o) → Laying n r j t'
+    pub laying_step : (t' : List ℕ) → length t ≡ table_words → t' ≡ set t v (get_or t p 0 + o) → Laying n r j t'
     laying_step t' l a = rw a (record {
       top = kept n (omega (arith, due_root n r ok)) ∙ i.top;
       laid = λ d b k. ⊎_elim (λ q. here d (eqb-true d j q)) (λ q. there d b k (eqb-false d j q)) (decide (eqb d j));
@@ -143,7 +141,7 @@ module _ (n : ℕ) (r : List ℕ) (ok : Falls n r) where
     })
       where
         new : get_or (set t v (get_or t p 0 + o)) v 0 ≡ get_or t p 0 + o
-        new = get_or-set_same t v (get_or t p 0 + o) 0 (omega (arith, x.low, few n r ok, kept_long t t' v _ l a))
+        new = get_or-set_same t v (get_or t p 0 + o) 0 (omega (arith, x.low, few n r ok, l))
 
         here : (d : ℕ) → d ≡ j → get_or (set t v (get_or t p 0 + o)) (node n r d) 0 ≡ get_or (set t v (get_or t p 0 + o)) (parent r (node n r d)) 0 + offset_at n r d
         here d q =

@@ -7,7 +7,6 @@ ghost use Rattle.trees.specs.Passes.{Stage, Offsets, Sized, Ranked, Starts};
 
 use crate::turns::step;
 use judge::{FallingRow, nodes};
-use std::array;
 
 // A table has a word for each node of the largest row.
 pub const TABLE: usize = 1024;
@@ -20,83 +19,61 @@ const NO_KEY: u16 = 65535;
 // Between the ranks of two sizes: more than any sample.
 pub const RANK_STEP: usize = 1024;
 
-// Node v hands its samples to its parent p, where they come after those that p has.
-fn hand(size: &mut Table, off: &mut Table, v: usize, p: usize)
-    requires { (v < table_words) × (p < table_words) × (get_or size.old p 0 + get_or size.old v 0 < 65536) }
-    ensures { (size.new ≡ set size.old p (get_or size.old p 0 + get_or size.old v 0))
-        × (off.new ≡ set off.old v (get_or size.old p 0)) }
-{
-    off[v] = size[p];
-    size[p] = size[p] + size[v];
-}
-
-// The pass that adds.
-fn add_up(row: FallingRow, m: usize, size: &mut Table, off: &mut Table)
-    requires { (m ≡ nodes row.row.now) × Stage row.n row.row.now ◌+◌ 0 one 0 size.old }
+// The size of each node's group, and where its samples start among those of its parent.
+fn sizes(row: FallingRow, size: &mut Table, off: &mut Table)
     ensures { Sized row.entry.n row.entry.row.now size.new off.new }
 {
+    let n = row.n;
+    let m = nodes(row.row);
+    size[..n].fill(1);
+    size[n..m].fill(0);
     for done in 0..m - 1 {
         let t = step(row, m, done);
-        hand(size, off, t.node, t.up);
+        off[t.node] = size[t.up];
+        size[t.up] += size[t.node];
     }
-}
-
-// The size of each node's group, and where its samples start among those of its parent.
-fn sizes(row: FallingRow, off: &mut Table) -> Table
-    ensures { Sized row.entry.n row.entry.row.now result off.new }
-{
-    let mut size: Table = [0; TABLE];
-    size[..row.n].fill(1);
-    add_up(row, nodes(row.row), &mut size, off);
-    size
-}
-
-// The key at p is lowered to that at v.
-fn lower(least: &mut Table, v: usize, p: usize)
-    requires { (v < table_words) × (p < table_words) }
-    ensures { least.new ≡ set least.old p (min (get_or least.old p 0) (get_or least.old v 0)) }
-{
-    least[p] = least[p].min(least[v]);
 }
 
 // The least key of the samples of each node's group.
-pub fn least(row: FallingRow, key: &Table) -> Table
+pub fn least(row: FallingRow, key: &Table, out: &mut Table)
     requires { Keys row.n key.now }
-    ensures { Tabled (least_at row.entry.n row.entry.row.now (entry key.now)) 0 (nodes row.entry.row.now) result }
+    ensures { Tabled (least_at row.entry.n row.entry.row.now (entry key.now)) 0 (nodes row.entry.row.now) out.new }
 {
+    let n = row.n;
     let m = nodes(row.row);
-    let mut least = *key;
-    least[row.n..].fill(NO_KEY);
+    out[..n].copy_from_slice(&key[..n]);
+    out[n..m].fill(NO_KEY);
     for i in 0..m - 1 {
         let t = step(row, m, i);
-        lower(&mut least, t.node, t.up);
+        out[t.up] = out[t.up].min(out[t.node]);
     }
-    least
-}
-
-// The interval of v starts at its offset inside that of p.
-fn place(start: &mut Table, off: &Table, v: usize, p: usize)
-    requires { (v < table_words) × (p < table_words) × (get_or start.old p 0 + get_or off.now v 0 < 65536) }
-    ensures { start.new ≡ set start.old v (get_or start.old p 0 + get_or off.now v 0) }
-{
-    start[v] = start[p] + off[v];
 }
 
 // Where each node's interval of places starts; a sample's is its place. The root comes first, and each node after its parent.
-pub fn starts(row: FallingRow, off: &Table) -> Table
+pub fn starts(row: FallingRow, off: &Table, start: &mut Table)
     requires { Offsets row.n row.row.now (nodes row.row.now - 1) off.now }
-    ensures { Starts row.entry.n row.entry.row.now (entry result) }
+    ensures { Starts row.entry.n row.entry.row.now (entry start.new) }
 {
     let m = nodes(row.row);
-    let mut start: Table = [0; TABLE];
+    start[row.n] = 0;
     for i in (0..m - 1).rev() {
         let t = step(row, m, i);
-        place(&mut start, off, t.node, t.up);
+        start[t.node] = start[t.up] + off[t.node];
     }
-    start
+}
+
+// Each sample its own key.
+fn numbers(n: usize, key: &mut Table)
+    requires { n ≤ most_samples }
+    ensures { Tabled own 0 n key.new }
+{
+    for s in 0..n {
+        key[s] = s as u16;
+    }
 }
 
 // The size of each node's group and its smallest sample: they settle the order of nodes (RULES 4.1).
+// A table is filled in place: returned by value it is copied, which costs time and stack.
 #[derive(Clone, Copy)]
 pub struct Ranks {
     pub size: Table,
@@ -104,22 +81,29 @@ pub struct Ranks {
 }
 
 impl Ranks {
+    // Room for the ranks of a row.
+    pub const EMPTY: Ranks = Ranks {
+        size: [0; TABLE],
+        low: [0; TABLE],
+    };
+
     // Those of a row.
-    pub fn of(row: FallingRow) -> Ranks
-        ensures { Ranked row.entry.n row.entry.row.now result.size result.low }
+    pub fn fill(&mut self, row: FallingRow)
+        ensures { Ranked row.entry.n row.entry.row.now self.new.size self.new.low }
     {
         let mut off: Table = [0; TABLE];
-        Ranks::with_offsets(row, &mut off)
+        self.fill_with_offsets(row, &mut off);
     }
 
     // Those of a row, and where each node's samples start among those of its parent.
-    pub fn with_offsets(row: FallingRow, off: &mut Table) -> Ranks
-        ensures { Ranked row.entry.n row.entry.row.now result.size result.low
-            × Sized row.entry.n row.entry.row.now result.size off.new }
+    pub fn fill_with_offsets(&mut self, row: FallingRow, off: &mut Table)
+        ensures { Ranked row.entry.n row.entry.row.now self.new.size self.new.low
+            × Sized row.entry.n row.entry.row.now self.new.size off.new }
     {
-        let size = sizes(row, off);
-        let low = least(row, &array::from_fn(|s| s as u16));
-        Ranks { size, low }
+        let mut key: Table = [0; TABLE];
+        sizes(row, &mut self.size, off);
+        numbers(row.n, &mut key);
+        least(row, &key, &mut self.low);
     }
 
     // The rank of a node in standard order, as one number that rises: the size weighs most, then the smallest sample.

@@ -55,7 +55,8 @@ fn rising(n: usize, last: usize, ranks: &Ranks) -> bool
 fn ranked(row: FallingRow) -> bool
     ensures { result ≡ ranked row.entry.n row.entry.row.now }
 {
-    let ranks = Ranks::of(row);
+    let mut ranks = Ranks::EMPTY;
+    ranks.fill(row);
     let last = nodes(row.row) - 1;
     (SMALLEST <= ranks.size[last]) & rising(row.n, last, &ranks)
 }

@@ -4,7 +4,7 @@ use Rattle.trees.proofs.StandardLaws.{standard_to}
 use Rattle.trees.proofs.PlaceLaws.{place_keys}
 use Rattle.mates.proofs.mates.Goals as goal
 
-pub spread-ends-requires : goal.spread-ends-requires
-spread-ends-requires c =
+pub fill-requires-2 : goal.fill-requires-2
+fill-requires-2 c =
     let chart = c.args.chart.now in
-    rw (c.falling-falling.ensures.samples, c.requires) (place_keys _ _ (standard_falls _ _ (standard_to _ _ chart.reference.standard)) chart.start chart.tables.starts)
+    rw (c.falling-falling.ensures.samples, c.requires) (place_keys _ _ (standard_falls _ _ (standard_to _ _ chart.reference.standard)) chart.places.now.start chart.tables.starts)

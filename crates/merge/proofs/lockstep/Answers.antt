@@ -6,12 +6,6 @@ use Rattle.trees.proofs.LockstepLaws.{lock_start, lock_step, lock_end, lock_on, 
 use Rattle.merge.proofs.lockstep.Goals.{In-loop-x}
 use Rattle.merge.proofs.lockstep.Goals as goal
 
-pub next_kept-x-requires : goal.next_kept-x-requires
-next_kept-x-requires c = omega (arith, c.requires.0.first.valid.low)
-
-pub next_kept-y-requires : goal.next_kept-y-requires
-next_kept-y-requires c = omega (arith, c.requires.0.second.valid.low)
-
 pub loop-x-init : goal.loop-x-init
 loop-x-init c =
     lock_start c.requires.0 c.requires.2 c.requires.3 (omega arith) c.next_kept-x.ensures c.next_kept-y.ensures

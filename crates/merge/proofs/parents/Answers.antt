@@ -20,7 +20,7 @@ lift-q-requires c =
     let t = climbs_sample c.requires.0 c.loop-i.invariant (omega arith) in
     let s : c.from-s.result < c.args.a.now.row.n = omega (arith, c.from-s.ensures) in
     let p = c.loop-i.invariant.right.node c.from-s.result s in
-    (omega (arith, c.requires.0.root_b, c.requires.1), omega (arith, s, c.requires.1), omega (arith, p.0, c.requires.1), p.1)
+    rw c.requires.1 (omega (arith, c.requires.0.root_b), s, p.0, p.1)
 
 pub loop-i-preserved : goal.loop-i-preserved
 loop-i-preserved c =

@@ -18,10 +18,10 @@ pub returns-then-c-w : goal.returns-then-c-w
 unfolding word_of
 returns-then-c-w c = rw (ne_eqb _ 0 c.if-w-eq0.false, lt-ltb _ _ c.if-c-w.true)
 
-pub returns-then-n-w : goal.returns-then-n-w
+pub returns-then-a-w : goal.returns-then-a-w
 unfolding word_of
-returns-then-n-w c =
-    rw (ne_eqb _ 0 c.if-w-eq0.false, le-ltb _ _ c.if-c-w.false, lt-ltb _ _ c.if-n-w.true)
+returns-then-a-w c =
+    rw (ne_eqb _ 0 c.if-w-eq0.false, le-ltb _ _ c.if-c-w.false, lt-ltb _ _ c.if-a-w.true)
 
 first_fits : (c : After-parent-q) → c.parent-p.result < table_words
 first_fits c =
@@ -48,4 +48,4 @@ bounds-b-q c = omega (arith, second_fits (goal.at.bounds-b-q c).After-parent-q)
 pub returns : goal.returns
 unfolding word_of
 returns c =
-    rw (ne_eqb _ 0 c.if-w-eq0.false, le-ltb _ _ c.if-c-w.false, le-ltb _ _ c.if-n-w.false, ← c.parent-p.ensures, ← c.parent-q.ensures) (omega arith)
+    rw (ne_eqb _ 0 c.if-w-eq0.false, le-ltb _ _ c.if-c-w.false, le-ltb _ _ c.if-a-w.false, ← c.parent-p.ensures, ← c.parent-q.ensures) (omega arith)

@@ -6,4 +6,4 @@ use Prim.Native.Nat.{min}
 use Rattle.passes.proofs.pass.least.Given as goal
 
 abbrev pub invariant-loop-i : goal.invariant-loop-i
-invariant-loop-i l = Stage l.row.n l.row.row.now min root_mark (entry l.key) l.i l.least
+invariant-loop-i l = Stage l.row.n l.row.row.now min root_mark (entry l.key) l.i l.out

@@ -1,11 +1,11 @@
 -- `passes::pass::starts` meets its contract: the root and the nodes of the steps from i on are laid. Assumes nothing.
 use Rattle.passes.proofs.Loops.{laying_start, laying_room, laying_step, laying_end}
-use Rattle.trees.proofs.FallsLaws.{few}
 use Rattle.trees.specs.Passes.{offset_at}
 use Rattle.trees.specs.Rows.{nodes}
-use lib.ListN.{get_or, get_or-replicate}
+use lib.ListN.{get_or}
+use lib.Seq.{get_or-set_same}
 use native.Mathlib.Omega.{arith}
-use mathlib.Core.Path.{◌≡◌}
+use mathlib.Core.Path.{◌≡◌, refl}
 use Prim.Native.Nat.{suc, ◌-◌, ◌<◌}
 use Rattle.passes.proofs.pass.starts.Goals.{After-step-t}
 use Rattle.passes.proofs.pass.starts.Goals as goal
@@ -23,20 +23,20 @@ module _ (c : After-step-t) where
 
 pub loop-i-init : goal.loop-i-init
 loop-i-init c =
-    rw c.nodes-m.ensures (laying_start c.args.row.n c.args.row.row.now c.args.row.falls _ (get_or-replicate 1024 c.args.row.n 0 0 (omega (arith, c.args.row.falls.most))))
+    rw c.nodes-m.ensures (laying_start c.args.row.n c.args.row.row.now c.args.row.falls _ (get_or-set_same c.args.start.now c.args.row.n 0 0 (omega (arith, c.args.row.falls.most))))
 
-pub place-requires : goal.place-requires
-place-requires c =
-    let s = (goal.at.place-requires c).After-step-t in
-    let x = c.step-t.ensures in
-    let k = laying_room c.args.row.n c.args.row.row.now c.args.row.falls (c.loop-i.i - 1) c.loop-i.start _ _ _ (below s) x (offset s) (rw (before s) at c.loop-i.invariant) in
-    (omega (arith, x.low, few _ _ c.args.row.falls), omega (arith, x.top, few _ _ c.args.row.falls), omega (arith, c.args.row.falls.most))
+pub overflow_add-start : goal.overflow_add-start
+overflow_add-start c =
+    let s = (goal.at.overflow_add-start c).After-step-t in
+    let k = laying_room c.args.row.n c.args.row.row.now c.args.row.falls (c.loop-i.i - 1) c.loop-i.start _ _ _ (below s) c.step-t.ensures (offset s)
+    (rw (before s) at c.loop-i.invariant) in
+    omega (arith, c.args.row.falls.most)
 
 pub loop-i-preserved : goal.loop-i-preserved
 loop-i-preserved c =
     let s = (goal.at.loop-i-preserved c).After-step-t in
     laying_step c.args.row.n c.args.row.row.now c.args.row.falls (c.loop-i.i - 1) c.loop-i.start _ _ _ (below s) c.step-t.ensures (offset s)
-    (rw (before s) at c.loop-i.invariant) _ c.place.array_long c.place.ensures
+    (rw (before s) at c.loop-i.invariant) _ (omega arith) refl
 
 pub returns : goal.returns
 returns c =
