@@ -1,6 +1,7 @@
 pub mod Paths
 pub mod ChildLaws
 pub mod PathLaws
+pub mod PathProps
 pub mod Spans
 pub mod SpanLaws
 pub mod HullLaws

@@ -3,40 +3,42 @@
 
 mod paths;
 mod reach;
+mod ways;
 
 ghost use Rattle.std.specs.Prelude.{◌≡◌, ℕ, ◌<◌, ◌≤◌, not, false, get_or};
 ghost use Rattle.trees.specs.Rows.{nodes, group_at, holds};
 ghost use Rattle.trees.specs.Checks.{most_samples};
-ghost use Rattle.trees.specs.Valid.{Standard};
 ghost use Rattle.trees.specs.Tables.{Tabled, Flags, table_words, entry, size_at};
-ghost use Rattle.trees.specs.Passes.{Starts};
-ghost use Rattle.trees.specs.Mates.{Tables};
 ghost use Rattle.sides.specs.Sides.{conflicts};
 ghost use Rattle.conflict.specs.Spans.{covers};
 ghost use Rattle.conflict.specs.Gathering.{Reached};
 
 use crate::paths::Trails;
-use crate::reach::{NOTHING, Reach, Reaches, Ways};
-use judge::nodes;
+use crate::reach::{NOTHING, Reach, Reaches};
+use crate::ways::Ways;
+use judge::{StandardRow, nodes};
 use mates::{Chart, Ends};
 use passes::{TABLE, Table};
 
-// What each node of the reference, with its starts, reaches in the row.
-fn reaches(n: usize, reference: &[u16], start: &Table, row: &[u16], reached: &mut Reaches)
-    requires { Standard n reference.now × Starts n reference.now (entry start.now) × Standard n row.now }
-    ensures { Reached n reference.now row.now (entry start.now) reached.new }
+// A flag for each node.
+pub type FlagTable = [bool; TABLE];
+
+// What each node of a chart's row reaches in another row.
+fn reaches(chart: &Chart, row: StandardRow, reached: &mut Reaches)
+    requires { row.n ≡ chart.now.reference.n }
+    ensures { Reached chart.now.reference.n chart.now.reference.row.now row.entry.row.now (entry chart.now.places.now.start) reached.new }
 {
+    let falling = row.falling();
     let mut ends = Ends::EMPTY;
     let mut trails = Trails::EMPTY;
-    ends.fill(n, row, start);
-    trails.fill(n, row);
+    ends.fill(falling, &chart.places.start);
+    trails.fill(falling);
     let ways = Ways {
-        n,
         row,
         ends: &ends,
         trails: &trails,
     };
-    ways.gather(reference, reached);
+    ways.gather(chart.reference, reached);
 }
 
 // Whether the places of what is reached lie in an interval.
@@ -48,7 +50,7 @@ fn covers(n: usize, size: u16, start: u16, reach: Reach) -> bool
 }
 
 // Flags those nodes from n to below m that pass a test.
-fn mark<F: Fn(usize) -> bool>(n: usize, m: usize, test: F, flags: &mut [bool; TABLE])
+fn mark<F: Fn(usize) -> bool>(n: usize, m: usize, test: F, flags: &mut FlagTable)
     requires bound { m ≤ table_words }
     requires calls { (v : ℕ) → n ≤ v → v < m → F.pre test v }
     ensures { (v : ℕ) → n ≤ v → v < m → F.post test v (get_or flags.new v false) }
@@ -58,51 +60,44 @@ fn mark<F: Fn(usize) -> bool>(n: usize, m: usize, test: F, flags: &mut [bool; TA
     }
 }
 
-// For each inner node of a reference row, with its chart, whether another row agrees with its group.
-pub fn agreements(
-    n: usize,
-    reference: &[u16],
-    chart: &Chart,
-    row: &[u16],
-    agrees: &mut [bool; TABLE],
-)
-    requires { Standard n reference.now
-        × Tables n reference.now chart.now.ranks.size chart.now.ranks.low chart.now.start × Standard n row.now }
-    ensures { Flags (λ h. not (conflicts n (group_at n reference.now h) row.now)) n
-        (nodes reference.now) agrees.new }
+// For each inner node of a chart's row, whether another row agrees with its group.
+#[tactic(auto, using(passes::proofs::StandardRows::standard_rows))]
+pub fn agreements(chart: &Chart, row: StandardRow, agrees: &mut FlagTable)
+    requires { row.n ≡ chart.now.reference.n }
+    ensures { Flags (λ h. not (conflicts chart.now.reference.n (group_at chart.now.reference.n chart.now.reference.row.now h) row.entry.row.now))
+        chart.now.reference.n (nodes chart.now.reference.row.now) agrees.new }
 {
     let mut reached = [NOTHING; TABLE];
-    reaches(n, reference, &chart.start, row, &mut reached);
+    reaches(chart, row, &mut reached);
+    let n = chart.reference.n;
     mark(
         n,
-        nodes(reference),
-        |v| covers(n, chart.ranks.size[v], chart.start[v], reached[v]),
+        nodes(chart.reference.row),
+        |v| covers(n, chart.places.ranks.size[v], chart.places.start[v], reached[v]),
         agrees,
     );
 }
 
 // For each of them, whether another row, with its sizes, holds its group, and whether it agrees with it.
+#[tactic(auto, using(passes::proofs::StandardRows::standard_rows))]
 pub fn sides(
-    n: usize,
-    reference: &[u16],
     chart: &Chart,
-    row: &[u16],
+    row: StandardRow,
     sizes: &Table,
-    held: &mut [bool; TABLE],
-    agrees: &mut [bool; TABLE],
+    held: &mut FlagTable,
+    agrees: &mut FlagTable,
 )
-    requires { Standard n reference.now
-        × Tables n reference.now chart.now.ranks.size chart.now.ranks.low chart.now.start × Standard n row.now
-        × Tabled (size_at n row.now) 0 (nodes row.now) sizes.now }
-    ensures flags { Flags (λ h. holds n (group_at n reference.now h) row.now) n
-        (nodes reference.now) held.new }
-    ensures flags_2 { Flags (λ h. not (conflicts n (group_at n reference.now h) row.now)) n
-        (nodes reference.now) agrees.new }
+    requires { (row.n ≡ chart.now.reference.n) × Tabled (size_at row.n row.row.now) 0 (nodes row.row.now) sizes.now }
+    ensures flags { Flags (λ h. holds chart.now.reference.n (group_at chart.now.reference.n chart.now.reference.row.now h) row.entry.row.now)
+        chart.now.reference.n (nodes chart.now.reference.row.now) held.new }
+    ensures flags_2 { Flags (λ h. not (conflicts chart.now.reference.n (group_at chart.now.reference.n chart.now.reference.row.now h) row.entry.row.now))
+        chart.now.reference.n (nodes chart.now.reference.row.now) agrees.new }
 {
     let mut reached = [NOTHING; TABLE];
-    reaches(n, reference, &chart.start, row, &mut reached);
-    let size = &chart.ranks.size;
-    let m = nodes(reference);
+    reaches(chart, row, &mut reached);
+    let size = &chart.places.ranks.size;
+    let n = chart.reference.n;
+    let m = nodes(chart.reference.row);
     mark(
         n,
         m,
@@ -112,7 +107,7 @@ pub fn sides(
     mark(
         n,
         m,
-        |v| covers(n, size[v], chart.start[v], reached[v]),
+        |v| covers(n, size[v], chart.places.start[v], reached[v]),
         agrees,
     );
 }

@@ -4,11 +4,10 @@
 ghost use Rattle.std.specs.Prelude.{◌≡◌, ◌+◌, ◌<◌};
 ghost use Rattle.trees.specs.Lists.{zeros};
 ghost use Rattle.trees.specs.Rows.{nodes};
-ghost use Rattle.trees.specs.Falls.{Falls};
 ghost use Rattle.trees.specs.Tables.{table_words};
 ghost use Rattle.conflict.specs.Paths.{Paths};
 
-use judge::{nodes, parent};
+use judge::{FallingRow, nodes, parent};
 use passes::{TABLE, Table};
 
 // 0 is a sample, and so no inner node. A table is of plain words (fixed memory), and so has no Option.
@@ -29,22 +28,23 @@ impl Trails {
     };
 
     // Those of a row, where no node goes on as yet.
-    pub fn fill(&mut self, n: usize, row: &[u16])
-        requires { Falls n row.now × (self.old.next ≡ zeros table_words) }
-        ensures { Paths n row.now (nodes row.now) self.new.head self.new.next }
+    pub fn fill(&mut self, row: FallingRow)
+        requires { self.old.next ≡ zeros table_words }
+        ensures { Paths row.entry.n row.entry.row.now (nodes row.entry.row.now) self.new.head self.new.next }
     {
+        let n = row.n;
         self.head[n] = n as u16;
-        for v in n + 1..nodes(row) {
-            self.extend(n, row, v);
+        for v in n + 1..nodes(row.row) {
+            self.extend(row, v);
         }
     }
 
     // Node v goes on with the path of its parent, or begins one where another child goes on already.
-    fn extend(&mut self, n: usize, row: &[u16], v: usize)
-        requires { Falls n row.now × (n < v) × (v < nodes row.now) × Paths n row.now v self.old.head self.old.next }
-        ensures { Paths n row.now (v + 1) self.new.head self.new.next }
+    fn extend(&mut self, row: FallingRow, v: usize)
+        requires { (row.n < v) × (v < nodes row.row.now) × Paths row.n row.row.now v self.old.head self.old.next }
+        ensures { Paths row.entry.n row.entry.row.now (v + 1) self.new.head self.new.next }
     {
-        let p = parent(row, v);
+        let p = parent(row.row, v);
         if self.next[p] != NO_NODE {
             self.head[v] = v as u16;
             return;

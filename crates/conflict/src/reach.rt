@@ -3,15 +3,15 @@
 ghost use Rattle.std.specs.Prelude.{◌≡◌, ◌+◌, ◌<◌, ◌≤◌, length};
 ghost use Rattle.trees.specs.Rows.{nodes};
 ghost use Rattle.trees.specs.Checks.{most_samples};
-ghost use Rattle.trees.specs.Valid.{Standard};
 ghost use Rattle.trees.specs.Tables.{table_words, entry};
-ghost use Rattle.conflict.specs.Routes.{first_of, last_of, Laid, Below};
 ghost use Rattle.conflict.specs.Spans.{up_from, lesser_of};
 ghost use Rattle.conflict.specs.Gathering.{NodeOrNone, Joins, Levelled, Ends};
+ghost use Rattle.conflict.specs.Routes.{first_of, last_of, Below};
 ghost use Rattle.conflict.specs.Gathering.{reach_at, Begins, Seeding, Handed, Gauged};
 
-use crate::paths::{NO_NODE, Trails};
-use judge::nodes;
+use crate::paths::NO_NODE;
+use crate::ways::Ways;
+use judge::{StandardRow, nodes};
 use passes::{TABLE, Table, step};
 
 // A node of a row that contains a group, or NO_NODE, and the first and the last place of those of its children that the
@@ -44,23 +44,15 @@ fn lesser_of(u: Reach, t: Reach) -> Reach
     }
 }
 
-// A row of n samples, with the first and the last place of each node and the paths of the inner nodes.
-#[derive(Clone, Copy)]
-pub struct Ways<'a> {
-    pub n: usize,
-    pub row: &'a [u16],
-    pub ends: &'a mates::Ends,
-    pub trails: &'a Trails,
-}
-
 impl Ways<'_> {
     // The parent of node x, of which whatever x contains touches x alone.
+    #[tactic(auto, using(passes::proofs::StandardRows::standard_nodes))]
     fn up(&self, x: usize) -> Reach
-        requires { (x + 1 < length self.now.row.now) × (x < table_words) }
-        ensures { result ≡ up_from self.now.row.now (first_of self.now) (last_of self.now) x }
+        requires { x < nodes self.now.row.row.now }
+        ensures { result ≡ up_from self.now.row.row.now (first_of self.now) (last_of self.now) x }
     {
         Reach {
-            node: self.row[x + 1],
+            node: self.row.row[x + 1],
             first: self.ends.first[x],
             last: self.ends.last[x],
         }
@@ -76,9 +68,9 @@ impl Ways<'_> {
 
     // What y reaches, brought up to node x where it is below it on one path.
     fn level(&self, x: u16, y: Reach) -> Reach
-        requires { Standard self.now.n self.now.row.now × (x < nodes self.now.row.now)
+        requires { (x < nodes self.now.row.row.now)
             × (x < y.node → Below self.now x y.node) }
-        ensures { Levelled self.now.n self.now.row.now (first_of self.now) (last_of self.now) x y result }
+        ensures { Levelled self.now.row.n self.now.row.row.now (first_of self.now) (last_of self.now) x y result }
     {
         if x < y.node {
             return self.up(usize::from(self.trails.next[usize::from(x)]));
@@ -88,11 +80,10 @@ impl Ways<'_> {
 
     // Two nodes on one path, brought to one level.
     fn settle(&self, x: Reach, y: Reach) -> Reach
-        requires { Standard self.now.n self.now.row.now
-            × (x.node < nodes self.now.row.now) × (y.node < nodes self.now.row.now)
+        requires { (x.node < nodes self.now.row.row.now) × (y.node < nodes self.now.row.row.now)
             × (x.node < y.node → Below self.now x.node y.node)
             × (y.node < x.node → Below self.now y.node x.node) }
-        ensures { Ends self.now.n self.now.row.now (first_of self.now) (last_of self.now) x y result }
+        ensures { Ends self.now.row.n self.now.row.row.now (first_of self.now) (last_of self.now) x y result }
     {
         let u = self.level(y.node, x);
         let t = self.level(x.node, y);
@@ -102,10 +93,9 @@ impl Ways<'_> {
     // Up from two nodes to the first that is above both: as long as they are on two paths, the one whose path begins at
     // the greater number goes past its beginning.
     fn meet(&self, a: Reach, b: Reach) -> Reach
-        requires { Laid self.now
-            × (self.now.n ≤ a.node) × (a.node < nodes self.now.row.now)
-            × (self.now.n ≤ b.node) × (b.node < nodes self.now.row.now) }
-        ensures { Joins self.now.n self.now.row.now (first_of self.now) (last_of self.now) a b result }
+        requires { (self.now.row.n ≤ a.node) × (a.node < nodes self.now.row.row.now)
+            × (self.now.row.n ≤ b.node) × (b.node < nodes self.now.row.row.now) }
+        ensures { Joins self.now.row.n self.now.row.row.now (first_of self.now) (last_of self.now) a b result }
     {
         let mut x = a;
         let mut y = b;
@@ -125,10 +115,9 @@ impl Ways<'_> {
 
     // What is reached by two groups together; the first may be none.
     fn join(&self, a: Reach, b: Reach) -> Reach
-        requires { Laid self.now
-            × NodeOrNone self.now.n self.now.row.now a.node
-            × (self.now.n ≤ b.node) × (b.node < nodes self.now.row.now) }
-        ensures { Joins self.now.n self.now.row.now (first_of self.now) (last_of self.now) a b result }
+        requires { NodeOrNone self.now.row.n self.now.row.row.now a.node
+            × (self.now.row.n ≤ b.node) × (b.node < nodes self.now.row.row.now) }
+        ensures { Joins self.now.row.n self.now.row.row.now (first_of self.now) (last_of self.now) a b result }
     {
         if a.node == NO_NODE {
             return b;
@@ -137,11 +126,11 @@ impl Ways<'_> {
     }
 
     // What node v of the reference starts with: a sample is reached by its parent, and an inner node has got nothing.
+    #[tactic(auto, using(passes::proofs::StandardRows::standard_nodes))]
     fn initial(&self, v: usize) -> Reach
-        requires { (self.now.n ≤ most_samples) × (self.now.n < length self.now.row.now) }
-        ensures { Begins self.now.n self.now.row.now (first_of self.now) (last_of self.now) v result }
+        ensures { Begins self.now.row.n self.now.row.row.now (first_of self.now) (last_of self.now) v result }
     {
-        if v < self.n {
+        if v < self.row.n {
             return self.up(v);
         }
         NOTHING
@@ -149,8 +138,8 @@ impl Ways<'_> {
 
     // What the nodes below m start with.
     fn seed(&self, m: usize, reached: &mut Reaches)
-        requires { (self.now.n ≤ most_samples) × (self.now.n < length self.now.row.now) × (m ≤ table_words) }
-        ensures { Seeding self.now.n self.now.row.now (first_of self.now) (last_of self.now) m reached.new }
+        requires { m ≤ table_words }
+        ensures { Seeding self.now.row.n self.now.row.row.now (first_of self.now) (last_of self.now) m reached.new }
     {
         for v in 0..m {
             reached[v] = self.initial(v);
@@ -159,26 +148,26 @@ impl Ways<'_> {
 
     // Node v of the reference hands what it has got to its parent p.
     fn hand(&self, v: usize, p: usize, reached: &mut Reaches)
-        requires { Laid self.now
-            × (v < table_words) × (p < table_words)
-            × NodeOrNone self.now.n self.now.row.now (reach_at reached.old p).node
-            × (self.now.n ≤ (reach_at reached.old v).node) × ((reach_at reached.old v).node < nodes self.now.row.now) }
-        ensures { Handed self.now.n self.now.row.now (first_of self.now) (last_of self.now) v p
-            reached.old reached.new }
+        requires { (v < table_words) × (p < table_words)
+            × NodeOrNone self.now.row.n self.now.row.row.now (reach_at reached.old p).node
+            × (self.now.row.n ≤ (reach_at reached.old v).node) × ((reach_at reached.old v).node < nodes self.now.row.row.now) }
+        ensures { Handed self.now.row.n self.now.row.row.now (first_of self.now) (last_of self.now) v p reached.old reached.new }
     {
         reached[p] = self.join(reached[p], reached[v]);
     }
 
     // What each node of the reference reaches in the row.
-    pub fn gather(&self, reference: &[u16], reached: &mut Reaches)
-        requires { Standard self.now.n reference.now × Laid self.now }
-        ensures { Gauged self.now.n reference.now self.now.row.now (first_of self.now) (last_of self.now)
+    #[tactic(auto, using(passes::proofs::StandardRows::standard_rows))]
+    pub fn gather(&self, reference: StandardRow, reached: &mut Reaches)
+        requires { reference.n ≡ self.now.row.n }
+        ensures { Gauged self.now.row.n reference.entry.row.now self.now.row.row.now (first_of self.now) (last_of self.now)
             reached.new }
     {
-        let m = nodes(reference);
+        let m = nodes(reference.row);
+        let falling = reference.falling();
         self.seed(m, reached);
         for i in 0..m - 1 {
-            let t = step(self.n, reference, m, i);
+            let t = step(falling, m, i);
             self.hand(t.node, t.up, reached);
         }
     }

@@ -6,7 +6,6 @@ mod carrying;
 ghost use Rattle.std.specs.Prelude.{◌≡◌, true, cond, eqb, ◌<◌, ◌≤◌, max, length};
 ghost use Rattle.trees.specs.Rows.{nodes, parent};
 ghost use Rattle.trees.specs.Checks.{most_samples, row_words};
-ghost use Rattle.trees.specs.Valid.{Standard};
 ghost use Rattle.trees.specs.Numbering.{row_of};
 ghost use Rattle.trees.specs.Tables.{Tabled, table_words, entry};
 ghost use Rattle.trees.specs.Passes.{Ranked};
@@ -17,7 +16,7 @@ ghost use Rattle.merge.specs.Settling.{Settled};
 ghost use Rattle.merge.specs.Carrying.{CarriedOver};
 
 use carrying::carry;
-use judge::{MOST_SAMPLES, ROOT_MARK, nodes, parent};
+use judge::{MOST_SAMPLES, ROOT_MARK, StandardRow, nodes, parent};
 use passes::{RANK_STEP, Ranks, TABLE, Table};
 
 // A number greater than every rank.
@@ -26,19 +25,20 @@ const RANK_END: usize = 1048576;
 // One side of a merging: a row, its ranks, and which of its groups are kept.
 #[derive(Clone, Copy)]
 pub struct Side<'a> {
-    pub row: &'a [u16],
+    pub row: StandardRow<'a>,
     pub ranks: &'a Ranks,
     pub keep: &'a [bool; TABLE],
+    ghost ranked: { Ranked row.n row.row.now ranks.now.size ranks.now.low },
 }
 
 impl Side<'_> {
     // The first node from v on that is kept, or the number of nodes.
+    #[tactic(auto, using(passes::proofs::StandardRows::standard_rows))]
     fn next_kept(&self, v: usize) -> usize
-        requires { (0 < length self.now.row.now) × (nodes self.now.row.now ≤ table_words)
-            × (v ≤ nodes self.now.row.now) }
-        ensures { Next self.now.keep.now v (nodes self.now.row.now) result }
+        requires { v ≤ nodes self.now.row.row.now }
+        ensures { Next self.now.keep.now v (nodes self.now.row.row.now) result }
     {
-        let m = nodes(self.row);
+        let m = nodes(self.row.row);
         for u in v..m {
             if self.keep[u] {
                 return u;
@@ -48,22 +48,21 @@ impl Side<'_> {
     }
 
     // The rank of node v, and after the last node a number greater than every rank: a None would come before all.
-    fn rank_or_end(&self, n: usize, v: usize) -> usize
-        requires { (n ≤ most_samples) × (0 < length self.now.row.now) × (nodes self.now.row.now ≤ table_words)
-            × (v < nodes self.now.row.now → entry self.now.ranks.now.size v ≤ n) }
-        ensures { result ≡ rank_or_end n (nodes self.now.row.now) self.now.ranks.now.size self.now.ranks.now.low v }
+    #[tactic(auto, using(passes::proofs::StandardRows::standard_rows))]
+    fn rank_or_end(&self, v: usize) -> usize
+        ensures { result ≡ rank_or_end self.now.row.n (nodes self.now.row.row.now) self.now.ranks.now.size self.now.ranks.now.low v }
     {
-        if nodes(self.row) <= v {
+        if nodes(self.row.row) <= v {
             return RANK_END;
         }
-        self.ranks.rank(n, v)
+        self.ranks.rank(self.row.n, v)
     }
 
     // If `taken`, gives node v the number c and answers the next node that is kept; otherwise answers v.
+    #[tactic(auto, using(passes::proofs::StandardRows::standard_rows))]
     fn give(&self, num: &mut Table, v: usize, c: usize, taken: bool) -> usize
-        requires { (0 < length self.now.row.now) × (nodes self.now.row.now ≤ table_words) × (c < table_words)
-            × (taken ≡ true → v < nodes self.now.row.now) }
-        ensures { Given num.old self.now.keep.now v (nodes self.now.row.now) c taken num.new result }
+        requires { (c < table_words) × (taken ≡ true → v < nodes self.now.row.row.now) }
+        ensures { Given num.old self.now.keep.now v (nodes self.now.row.row.now) c taken num.new result }
     {
         if !taken {
             return v;
@@ -93,39 +92,29 @@ fn choose(p: usize, q: usize) -> Choice
 }
 
 // The same for node x of one side and node y of another.
-fn choose_next(n: usize, a: &Side, x: usize, b: &Side, y: usize) -> Choice
-    requires { (n ≤ most_samples) × (0 < length a.now.row.now) × (0 < length b.now.row.now)
-        × (nodes a.now.row.now ≤ table_words) × (nodes b.now.row.now ≤ table_words)
-        × (x < nodes a.now.row.now → entry a.now.ranks.now.size x ≤ n)
-        × (y < nodes b.now.row.now → entry b.now.ranks.now.size y ≤ n) }
-    ensures { Chosen (rank_or_end n (nodes a.now.row.now) a.now.ranks.now.size a.now.ranks.now.low x)
-        (rank_or_end n (nodes b.now.row.now) b.now.ranks.now.size b.now.ranks.now.low y)
+fn choose_next(a: &Side, x: usize, b: &Side, y: usize) -> Choice
+    ensures { Chosen (rank_or_end a.now.row.n (nodes a.now.row.row.now) a.now.ranks.now.size a.now.ranks.now.low x)
+        (rank_or_end b.now.row.n (nodes b.now.row.row.now) b.now.ranks.now.size b.now.ranks.now.low y)
         result.first result.second result.low }
 {
-    choose(a.rank_or_end(n, x), b.rank_or_end(n, y))
+    choose(a.rank_or_end(x), b.rank_or_end(y))
 }
 
-// Numbers the kept groups of both sides from n in their common order, with each number's smallest sample, and answers the first number that is left.
-fn lockstep(
-    n: usize,
-    a: &Side,
-    b: &Side,
-    num_a: &mut Table,
-    num_b: &mut Table,
-    mins: &mut Table,
-) -> usize
-    requires { Mergeable n a.now.row.now a.now.keep.now b.now.row.now b.now.keep.now
-        × Ranked n a.now.row.now a.now.ranks.now.size a.now.ranks.now.low
-        × Ranked n b.now.row.now b.now.ranks.now.size b.now.ranks.now.low
-        × (num_a.old ≡ blank) × (num_b.old ≡ blank) }
-    ensures { Numbered n a.now.row.now a.now.keep.now b.now.row.now b.now.keep.now
+// Numbers the kept groups of both sides in their common order, from the number of samples on, with each number's
+// smallest sample, and answers the first number that is left.
+#[tactic(auto, using(passes::proofs::StandardRows::standard_nodes))]
+fn lockstep(a: &Side, b: &Side, num_a: &mut Table, num_b: &mut Table, mins: &mut Table) -> usize
+    requires { Mergeable a.now.row.n a.now.row.row.now a.now.keep.now b.now.row.row.now b.now.keep.now
+        × (b.now.row.n ≡ a.now.row.n) × (num_a.old ≡ blank) × (num_b.old ≡ blank) }
+    ensures { Numbered a.now.row.n a.now.row.row.now a.now.keep.now b.now.row.row.now b.now.keep.now
         num_a.new num_b.new mins.new result }
 {
+    let n = a.row.n;
     let mut x = a.next_kept(n);
     let mut y = b.next_kept(n);
     let mut c = n;
-    while (x < nodes(a.row)) | (y < nodes(b.row)) {
-        let next = choose_next(n, a, x, b, y);
+    while (x < nodes(a.row.row)) | (y < nodes(b.row.row)) {
+        let next = choose_next(a, x, b, y);
         mins[c] = next.low;
         x = a.give(num_a, x, c, next.first);
         y = b.give(num_b, y, c, next.second);
@@ -145,12 +134,12 @@ fn own_or(own: u16, other: u16) -> u16
 }
 
 // Each node that is not kept takes its parent's number, so that each has that of the nearest kept node at or above it.
-fn raise(n: usize, row: &[u16], num: &mut Table)
-    requires { Standard n row.now }
-    ensures { Raised n row.now num.old num.new }
+#[tactic(auto, using(passes::proofs::StandardRows::standard_nodes))]
+fn raise(row: StandardRow, num: &mut Table)
+    ensures { Raised row.entry.n row.entry.row.now num.old num.new }
 {
-    for v in n + 1..nodes(row) {
-        let p = parent(row, v);
+    for v in row.n + 1..nodes(row.row) {
+        let p = parent(row.row, v);
         num[v] = own_or(num[v], num[p]);
     }
 }
@@ -158,66 +147,71 @@ fn raise(n: usize, row: &[u16], num: &mut Table)
 // A row to climb in: the nodes above each, and the number of the nearest kept node at or above it.
 #[derive(Clone, Copy)]
 struct Ladder<'a> {
-    row: &'a [u16],
+    row: StandardRow<'a>,
     up: &'a Table,
 }
 
 impl Ladder<'_> {
     // The first node from v upwards that has a number below i.
-    fn climb(&self, n: usize, i: usize, v: usize) -> usize
-        requires { Standard n self.now.row.now × (entry self.now.up.now n < i) × (n ≤ v) × (v < nodes self.now.row.now) }
-        ensures { result ≡ climbed (nodes self.now.row.now) self.now.row.now self.now.up.now i v }
+    #[tactic(auto, using(passes::proofs::StandardRows::standard_nodes))]
+    fn climb(&self, i: usize, v: usize) -> usize
+        requires { (entry self.now.up.now self.now.row.n < i) × (self.now.row.n ≤ v) × (v < nodes self.now.row.row.now) }
+        ensures { result ≡ climbed (nodes self.now.row.row.now) self.now.row.row.now self.now.up.now i v }
     {
         let mut u = v;
         while i <= usize::from(self.up[u]) {
-            u = parent(self.row, u);
+            u = parent(self.row.row, u);
         }
         u
     }
 
     // Moves the place of sample s up to the first node that has a number below i, and answers that number.
-    fn lift(&self, n: usize, places: &mut [u16; MOST_SAMPLES], i: usize, s: usize) -> u16
-        requires { Standard n self.now.row.now × (entry self.now.up.now n < i) × (s < n)
-            × (n ≤ entry places.old s) × (entry places.old s < nodes self.now.row.now) }
-        ensures { Lifted self.now.row.now self.now.up.now places.old i s places.new result }
+    fn lift(&self, places: &mut [u16; MOST_SAMPLES], i: usize, s: usize) -> u16
+        requires { (entry self.now.up.now self.now.row.n < i) × (s < self.now.row.n)
+            × (self.now.row.n ≤ entry places.old s) × (entry places.old s < nodes self.now.row.row.now) }
+        ensures { Lifted self.now.row.row.now self.now.up.now places.old i s places.new result }
     {
-        let v = self.climb(n, i, usize::from(places[s]));
+        let v = self.climb(i, usize::from(places[s]));
         places[s] = v as u16;
         self.up[v]
     }
 }
 
 // Puts each sample's place at its parent.
-fn start(n: usize, row: &[u16], places: &mut [u16; MOST_SAMPLES])
-    requires { Standard n row.now }
-    ensures { Tabled (parent row.now) 0 n places.new }
+#[tactic(auto, using(passes::proofs::StandardRows::standard_nodes))]
+fn start(row: StandardRow, places: &mut [u16; MOST_SAMPLES])
+    ensures { Tabled (parent row.entry.row.now) 0 row.entry.n places.new }
 {
-    places[..n].copy_from_slice(&row[1..n + 1]);
+    let n = row.n;
+    places[..n].copy_from_slice(&row.row[1..n + 1]);
 }
 
 // Puts the parent of each new number where its smallest sample was.
-fn parents(n: usize, a: &Ladder, b: &Ladder, c: usize, mins: &mut Table)
-    requires { Climbable n a.now.row.now a.now.up.now b.now.row.now b.now.up.now mins.old c }
-    ensures { Tabled (parent_of n a.now.row.now a.now.up.now b.now.row.now b.now.up.now mins.old)
-        n c mins.new }
+fn parents(a: &Ladder, b: &Ladder, c: usize, mins: &mut Table)
+    requires { Climbable a.now.row.n a.now.row.row.now a.now.up.now b.now.row.row.now b.now.up.now mins.old c
+        × (b.now.row.n ≡ a.now.row.n) }
+    ensures { Tabled (parent_of a.now.row.n a.now.row.row.now a.now.up.now b.now.row.row.now b.now.up.now mins.old)
+        a.now.row.n c mins.new }
 {
+    let n = a.row.n;
     let mut places_a = [0; MOST_SAMPLES];
     let mut places_b = [0; MOST_SAMPLES];
-    start(n, a.row, &mut places_a);
-    start(n, b.row, &mut places_b);
+    start(a.row, &mut places_a);
+    start(b.row, &mut places_b);
     for i in (n + 1..c).rev() {
         let s = usize::from(mins[i]);
-        let p = a.lift(n, &mut places_a, i, s);
-        let q = b.lift(n, &mut places_b, i, s);
+        let p = a.lift(&mut places_a, i, s);
+        let q = b.lift(&mut places_b, i, s);
         mins[i] = p.max(q);
     }
     mins[n] = ROOT_MARK as u16;
 }
 
 // Word w of the merged row.
-fn word(n: usize, a: &Ladder, b: &Ladder, parents: &Table, c: usize, w: usize) -> u16
-    requires { Standard n a.now.row.now × Standard n b.now.row.now × (c < row_words n) }
-    ensures { result ≡ word_of n a.now.row.now a.now.up.now b.now.row.now b.now.up.now parents.now c w }
+#[tactic(auto, using(passes::proofs::StandardRows::standard_nodes))]
+fn word(a: &Ladder, b: &Ladder, parents: &Table, c: usize, w: usize) -> u16
+    requires { (b.now.row.n ≡ a.now.row.n) × (c < row_words a.now.row.n) }
+    ensures { result ≡ word_of a.now.row.n a.now.row.row.now a.now.up.now b.now.row.row.now b.now.up.now parents.now c w }
 {
     if w == 0 {
         return c as u16;
@@ -225,41 +219,39 @@ fn word(n: usize, a: &Ladder, b: &Ladder, parents: &Table, c: usize, w: usize) -
     if c < w {
         return 0;
     }
-    if n < w {
+    if a.row.n < w {
         return parents[w - 1];
     }
-    let p = parent(a.row, w - 1);
-    let q = parent(b.row, w - 1);
+    let p = parent(a.row.row, w - 1);
+    let q = parent(b.row.row, w - 1);
     a.up[p].max(b.up[q])
 }
 
 // Writes the merged row.
-fn write_row(n: usize, a: &Ladder, b: &Ladder, parents: &Table, c: usize, out: &mut [u16])
-    requires { Standard n a.now.row.now × Standard n b.now.row.now × (c < row_words n)
-        × (length out.old ≡ row_words n) }
-    ensures { Tabled (word_of n a.now.row.now a.now.up.now b.now.row.now b.now.up.now parents.now c)
-        0 (row_words n) out.new }
+fn write_row(a: &Ladder, b: &Ladder, parents: &Table, c: usize, out: &mut [u16])
+    requires { (b.now.row.n ≡ a.now.row.n) × (c < row_words a.now.row.n) × (length out.old ≡ row_words a.now.row.n) }
+    ensures { Tabled (word_of a.now.row.n a.now.row.row.now a.now.up.now b.now.row.row.now b.now.up.now parents.now c)
+        0 (row_words a.now.row.n) out.new }
 {
     for w in 0..out.len() {
-        out[w] = word(n, a, b, parents, c, w);
+        out[w] = word(a, b, parents, c, w);
     }
 }
 
 // Writes the row of the groups that are kept of two standard rows, where these agree and the whole is among them.
 // It tells at which node each kept group of the first row has come.
-fn merge_ranked(n: usize, a: &Side, b: &Side, num: &mut Table, out: &mut [u16])
-    requires { Mergeable n a.now.row.now a.now.keep.now b.now.row.now b.now.keep.now
-        × Ranked n a.now.row.now a.now.ranks.now.size a.now.ranks.now.low
-        × Ranked n b.now.row.now b.now.ranks.now.size b.now.ranks.now.low × (length out.old ≡ row_words n) }
-    ensures { (out.new ≡ row_of n (merged n a.now.row.now a.now.keep.now b.now.row.now b.now.keep.now))
-        × Settled n a.now.row.now a.now.keep.now num.new out.new }
+fn merge_ranked(a: &Side, b: &Side, num: &mut Table, out: &mut [u16])
+    requires { Mergeable a.now.row.n a.now.row.row.now a.now.keep.now b.now.row.row.now b.now.keep.now
+        × (b.now.row.n ≡ a.now.row.n) × (length out.old ≡ row_words a.now.row.n) }
+    ensures { (out.new ≡ row_of a.now.row.n (merged a.now.row.n a.now.row.row.now a.now.keep.now b.now.row.row.now b.now.keep.now))
+        × Settled a.now.row.n a.now.row.row.now a.now.keep.now num.new out.new }
 {
     let mut num_b: Table = [0; TABLE];
     let mut mins: Table = [0; TABLE];
     *num = [0; TABLE];
-    let c = lockstep(n, a, b, num, &mut num_b, &mut mins);
-    raise(n, a.row, num);
-    raise(n, b.row, &mut num_b);
+    let c = lockstep(a, b, num, &mut num_b, &mut mins);
+    raise(a.row, num);
+    raise(b.row, &mut num_b);
     let first = Ladder {
         row: a.row,
         up: num,
@@ -268,40 +260,39 @@ fn merge_ranked(n: usize, a: &Side, b: &Side, num: &mut Table, out: &mut [u16])
         row: b.row,
         up: &num_b,
     };
-    parents(n, &first, &second, c, &mut mins);
-    write_row(n, &first, &second, &mins, c, out);
+    parents(&first, &second, c, &mut mins);
+    write_row(&first, &second, &mins, c, out);
 }
 
 // The same row, and what the kept nodes of the first row have in a table is carried over to where they have come.
-pub fn merge_carried(n: usize, a: &Side, b: &Side, from: &Table, to: &mut Table, out: &mut [u16])
-    requires { Mergeable n a.now.row.now a.now.keep.now b.now.row.now b.now.keep.now
-        × Ranked n a.now.row.now a.now.ranks.now.size a.now.ranks.now.low
-        × Ranked n b.now.row.now b.now.ranks.now.size b.now.ranks.now.low × (length out.old ≡ row_words n) }
-    ensures { CarriedOver n a.now.row.now a.now.keep.now b.now.row.now b.now.keep.now
+#[tactic(auto, using(passes::proofs::StandardRows::standard_rows))]
+pub fn merge_carried(a: &Side, b: &Side, from: &Table, to: &mut Table, out: &mut [u16])
+    requires { Mergeable a.now.row.n a.now.row.row.now a.now.keep.now b.now.row.row.now b.now.keep.now
+        × (b.now.row.n ≡ a.now.row.n) × (length out.old ≡ row_words a.now.row.n) }
+    ensures { CarriedOver a.now.row.n a.now.row.row.now a.now.keep.now b.now.row.row.now b.now.keep.now
         from.now to.old to.new out.new }
 {
     let mut num: Table = [0; TABLE];
-    merge_ranked(n, a, b, &mut num, out);
-    carry(n, nodes(a.row), a.keep, &num, from, to);
+    merge_ranked(a, b, &mut num, out);
+    carry(a.row.n, nodes(a.row.row), a.keep, &num, from, to);
 }
 
 // The same row, with the ranks made here.
 pub fn merge(
-    n: usize,
-    a: &[u16],
+    a: StandardRow,
     keep_a: &[bool; TABLE],
-    b: &[u16],
+    b: StandardRow,
     keep_b: &[bool; TABLE],
     out: &mut [u16],
 )
-    requires { Mergeable n a.now keep_a.now b.now keep_b.now × (length out.old ≡ row_words n) }
-    ensures { out.new ≡ row_of n (merged n a.now keep_a.now b.now keep_b.now) }
+    requires { Mergeable a.n a.row.now keep_a.now b.row.now keep_b.now × (b.n ≡ a.n) × (length out.old ≡ row_words a.n) }
+    ensures { out.new ≡ row_of a.entry.n (merged a.entry.n a.entry.row.now keep_a.now b.entry.row.now keep_b.now) }
 {
     let mut ranks_a = Ranks::EMPTY;
     let mut ranks_b = Ranks::EMPTY;
     let mut num: Table = [0; TABLE];
-    ranks_a.fill(n, a);
-    ranks_b.fill(n, b);
+    ranks_a.fill(a.falling());
+    ranks_b.fill(b.falling());
     let first = Side {
         row: a,
         ranks: &ranks_a,
@@ -312,5 +303,5 @@ pub fn merge(
         ranks: &ranks_b,
         keep: keep_b,
     };
-    merge_ranked(n, &first, &second, &mut num, out);
+    merge_ranked(&first, &second, &mut num, out);
 }

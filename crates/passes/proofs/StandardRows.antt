@@ -27,6 +27,18 @@ module _ (n : ℕ) (r : List ℕ) (s : standard n r ≡ true) where
 -- for `using`: a function that holds such a row then needs no answers for its first word and its places in tables
 pub ruleset standard_rows = (standard_long, standard_few, standard_most)
 
+module _ (n : ℕ) (r : List ℕ) (s : standard n r ≡ true) where
+  -- it has an inner node
+  pub standard_inner : n < nodes r
+  standard_inner = (standard_to n r s).valid.low
+
+  -- it has a word for each node after the first
+  pub standard_words : nodes r < length r
+  standard_words = let ok = (standard_to n r s).valid in omega (arith, ok.words, ok.high)
+
+-- the same for a function that reads the words of its nodes
+pub ruleset standard_nodes = (standard_rows, standard_inner, standard_words)
+
 -- a row that is standard over its own samples, which are n
 pub standard_over : {n k : ℕ} {r : List ℕ} → standard k r ≡ true → k ≡ n → Standard n r
 standard_over {n} {k} {r} s e = rw e at (standard_to k r s)

@@ -2,17 +2,18 @@
 use Rattle.std.proofs.Common.{◌<◌, arith}
 use Rattle.trees.specs.Tables.{table_words}
 use Rattle.trees.proofs.FallsLaws.{standard_falls}
+use Rattle.trees.proofs.StandardLaws.{standard_to}
 use Rattle.trees.proofs.ClimbingLaws.{raising_start, raising_step, raising_end}
 use Rattle.merge.proofs.raise.Goals.{After-parent-p}
 use Rattle.merge.proofs.raise.Goals as goal
 
 pub loop-v-init : goal.loop-v-init
-loop-v-init c = raising_start c.requires (omega arith) (omega arith)
+loop-v-init c = raising_start (standard_to _ _ c.args.row.standard) (omega arith) (omega arith)
 
 parent-fits : (c : After-parent-p) → c.parent-p.result < table_words
 parent-fits c =
-    let d = (standard_falls c.args.n c.args.row.now c.requires).down c.loop-v.v (omega arith) (omega (arith, c.nodes-v-end.ensures)) in
-    omega (arith, c.parent-p.ensures, c.nodes-v-end.ensures, c.requires.valid.high, c.requires.valid.most)
+    let d = (standard_falls c.args.row.n c.args.row.row.now (standard_to _ _ c.args.row.standard)).down c.loop-v.v (omega arith) (omega (arith, c.nodes-v-end.ensures)) in
+    omega (arith, c.parent-p.ensures, c.nodes-v-end.ensures, (standard_to _ _ c.args.row.standard).valid.high, (standard_to _ _ c.args.row.standard).valid.most)
 
 pub offset_bounds-num-p : goal.offset_bounds-num-p
 offset_bounds-num-p c =
@@ -23,7 +24,7 @@ bounds-num-p c =
     omega (arith, parent-fits (goal.at.bounds-num-p c).After-parent-p)
 
 pub loop-v-preserved : goal.loop-v-preserved
-loop-v-preserved c = raising_step c.requires c.loop-v.invariant (omega arith) (omega arith) (rw c.parent-p.ensures at c.own_or.ensures)
+loop-v-preserved c = raising_step (standard_to _ _ c.args.row.standard) c.loop-v.invariant (omega arith) (omega arith) (rw c.parent-p.ensures at c.own_or.ensures)
 
 pub returns : goal.returns
-returns c = raising_end c.requires c.loop-v.invariant (omega arith)
+returns c = raising_end (standard_to _ _ c.args.row.standard) c.loop-v.invariant (omega arith)

@@ -3,4 +3,4 @@ use Rattle.trees.specs.Climbing.{Raising}
 use Rattle.merge.proofs.raise.Given as goal
 
 abbrev pub invariant-loop-v : goal.invariant-loop-v
-invariant-loop-v l = Raising l.n l.row l.initial.num l.v l.num
+invariant-loop-v l = Raising l.row.n l.row.row.now l.initial.num l.v l.num

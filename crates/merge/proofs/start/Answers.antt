@@ -4,13 +4,14 @@ use Rattle.std.proofs.Math.ListN.{get_or-append}
 use Rattle.std.proofs.lemmas.List.{get_or-take}
 use Rattle.std.proofs.lemmas.Grind.{get_or_after_one}
 use Rattle.trees.specs.Rows.{parent}
+use Rattle.trees.proofs.StandardLaws.{standard_to}
 use Rattle.merge.proofs.start.Goals as goal
 
 pub returns : goal.returns
 unfolding parent
 returns c = record {
   is = λ v a h.
-      let long : v < length c.copy_from_slice.new.self = omega (arith, c.copy_from_slice.ensures.len, length-take c.args.n c.args.places.now, c.requires.valid.most) in
-      let less : v < c.args.n + 1 - 1 = omega arith in
+      let long : v < length c.copy_from_slice.new.self = omega (arith, c.copy_from_slice.ensures.len, length-take c.args.row.n c.args.places.now, (standard_to _ _ c.args.row.standard).valid.most) in
+      let less : v < c.args.row.n + 1 - 1 = omega arith in
       rw (get_or-append c.copy_from_slice.new.self _ 0 v long, c.copy_from_slice.ensures.after, get_or-take _ _ _ _ less, get_or_after_one, one-add);
 }

@@ -3,7 +3,9 @@ use Rattle.trees.specs.Tables.{table_words}
 use Prim.Native.Nat.{◌-◌, ◌<◌}
 use borrow.Author.Tests.{eq-eqb, ne_eqb, lt-ltb, le-ltb}
 use Rattle.trees.specs.Climbing.{word_of}
+use Rattle.passes.proofs.StandardRows.{standard_over}
 use Rattle.trees.proofs.FallsLaws.{standard_falls}
+use Rattle.trees.proofs.StandardLaws.{standard_to}
 use native.Mathlib.Omega.{arith}
 use Rattle.merge.proofs.word.Goals.{After-parent-q}
 use Rattle.merge.proofs.word.Goals as goal
@@ -16,20 +18,20 @@ pub returns-then-c-w : goal.returns-then-c-w
 unfolding word_of
 returns-then-c-w c = rw (ne_eqb _ 0 c.if-w-eq0.false, lt-ltb _ _ c.if-c-w.true)
 
-pub returns-then-n-w : goal.returns-then-n-w
+pub returns-then-a-w : goal.returns-then-a-w
 unfolding word_of
-returns-then-n-w c =
-    rw (ne_eqb _ 0 c.if-w-eq0.false, le-ltb _ _ c.if-c-w.false, lt-ltb _ _ c.if-n-w.true)
+returns-then-a-w c =
+    rw (ne_eqb _ 0 c.if-w-eq0.false, le-ltb _ _ c.if-c-w.false, lt-ltb _ _ c.if-a-w.true)
 
 first_fits : (c : After-parent-q) → c.parent-p.result < table_words
 first_fits c =
-    let d = (standard_falls c.args.n c.args.a.now.row.now c.requires.0).leaf (c.args.w - 1) (omega arith) in
-    omega (arith, c.parent-p.ensures, d.1, c.requires.0.valid.high, c.requires.0.valid.most)
+    let d = (standard_falls c.args.a.now.row.n c.args.a.now.row.row.now (standard_to _ _ c.args.a.now.row.standard)).leaf (c.args.w - 1) (omega arith) in
+    omega (arith, c.parent-p.ensures, d.1, (standard_to _ _ c.args.a.now.row.standard).valid.high, (standard_to _ _ c.args.a.now.row.standard).valid.most)
 
 second_fits : (c : After-parent-q) → c.parent-q.result < table_words
 second_fits c =
-    let d = (standard_falls c.args.n c.args.b.now.row.now c.requires.1).leaf (c.args.w - 1) (omega arith) in
-    omega (arith, c.parent-q.ensures, d.1, c.requires.1.valid.high, c.requires.1.valid.most)
+    let d = (standard_falls c.args.a.now.row.n c.args.b.now.row.row.now (standard_over c.args.b.now.row.standard c.requires.0)).leaf (c.args.w - 1) (omega arith) in
+    omega (arith, c.parent-q.ensures, d.1, (standard_over c.args.b.now.row.standard c.requires.0).valid.high, (standard_over c.args.b.now.row.standard c.requires.0).valid.most)
 
 pub offset_bounds-a-p : goal.offset_bounds-a-p
 offset_bounds-a-p c = omega (arith, first_fits c)
@@ -46,4 +48,4 @@ bounds-b-q c = omega (arith, second_fits (goal.at.bounds-b-q c).After-parent-q)
 pub returns : goal.returns
 unfolding word_of
 returns c =
-    rw (ne_eqb _ 0 c.if-w-eq0.false, le-ltb _ _ c.if-c-w.false, le-ltb _ _ c.if-n-w.false, ← c.parent-p.ensures, ← c.parent-q.ensures) (omega arith)
+    rw (ne_eqb _ 0 c.if-w-eq0.false, le-ltb _ _ c.if-c-w.false, le-ltb _ _ c.if-a-w.false, ← c.parent-p.ensures, ← c.parent-q.ensures) (omega arith)

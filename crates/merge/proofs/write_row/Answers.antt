@@ -12,5 +12,5 @@ loop-w-preserved c = tabled_more _ _ _ _ _ c.loop-w.invariant (omega arith) c.wo
 
 pub returns : goal.returns
 returns c =
-    let e : c.loop-w.w ≡ row_words c.args.n = omega arith in
+    let e : c.loop-w.w ≡ row_words c.args.a.now.row.n = omega arith in
     rw e at c.loop-w.invariant

@@ -4,4 +4,4 @@ use Rattle.trees.specs.Climbing.{word_of}
 use Rattle.merge.proofs.write_row.Given as goal
 
 abbrev pub invariant-loop-w : goal.invariant-loop-w
-invariant-loop-w l = Tabled (word_of l.n l.a.row.now l.a.up.now l.b.row.now l.b.up.now l.parents l.c) 0 l.w l.out
+invariant-loop-w l = Tabled (word_of l.a.row.n l.a.row.row.now l.a.up.now l.b.row.row.now l.b.up.now l.parents l.c) 0 l.w l.out

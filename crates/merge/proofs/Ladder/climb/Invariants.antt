@@ -6,7 +6,7 @@ use Prim.Native.Nat.{◌≤◌}
 use Rattle.merge.proofs.Ladder.climb.Given as goal
 
 abbrev pub invariant-loop-u : goal.invariant-loop-u
-invariant-loop-u l = (climbed (nodes l.self.row.now) l.self.row.now l.self.up.now l.i l.u ≡ climbed (nodes l.self.row.now) l.self.row.now l.self.up.now l.i l.v) × (l.n ≤ l.u) × (l.u ≤ l.v)
+invariant-loop-u l = (climbed (nodes l.self.row.row.now) l.self.row.row.now l.self.up.now l.i l.u ≡ climbed (nodes l.self.row.row.now) l.self.row.row.now l.self.up.now l.i l.v) × (l.self.row.n ≤ l.u) × (l.u ≤ l.v)
 
 abbrev pub decreases-loop-u : goal.decreases-loop-u
 decreases-loop-u l = l.u

@@ -2,6 +2,7 @@
 use Prim.Native.Nat.{◌<◌}
 use Rattle.trees.proofs.ClimbingLaws.{climb_range}
 use Rattle.trees.specs.Tables.{entry, table_words}
+use Rattle.trees.proofs.StandardLaws.{standard_to}
 use Rattle.trees.specs.Rows.{nodes}
 use native.Mathlib.Omega.{arith}
 use Rattle.merge.proofs.Ladder.lift.Goals.{After-climb-v}
@@ -10,8 +11,8 @@ use Rattle.merge.proofs.Ladder.lift.Goals as goal
 place-fits : (c : After-climb-v) → c.climb-v.result < table_words
 place-fits c =
     let a = c.args in
-    let v = climb_range c.requires.0 a.self.now.up.now (nodes a.self.now.row.now) a.i (entry a.places.now a.s) c.requires.1 c.requires.3 c.requires.4 in
-    omega (arith, v.1, rw c.from.ensures at c.climb-v.ensures, c.requires.4, c.requires.0.valid.high, c.requires.0.valid.most)
+    let v = climb_range (standard_to _ _ c.args.self.now.row.standard) a.self.now.up.now (nodes a.self.now.row.row.now) a.i (entry a.places.now a.s) c.requires.0 c.requires.2 c.requires.3 in
+    omega (arith, v.1, rw c.from.ensures at c.climb-v.ensures, c.requires.3, (standard_to _ _ c.args.self.now.row.standard).valid.high, (standard_to _ _ c.args.self.now.row.standard).valid.most)
 
 pub overflow_cast-places : goal.overflow_cast-places
 overflow_cast-places c = omega (arith, place-fits c)

@@ -9,13 +9,13 @@ use Rattle.conflict.proofs.paths.Trails.extend.Goals.{After-parent-p}
 use Rattle.conflict.proofs.paths.Trails.extend.Goals as goal
 
 pub parent-p-requires : goal.parent-p-requires
-parent-p-requires c = omega (arith, c.requires.0.words, c.requires.0.high)
+parent-p-requires c = omega (arith, c.args.row.falls.words, c.args.row.falls.high)
 
 -- the parent is a word of a table
 low : (c : After-parent-p) → c.parent-p.result < table_words
 low c =
     let a = c.args in
-    omega (arith, c.parent-p.ensures, c.requires.0.down a.v c.requires.1 c.requires.2, few a.n a.row.now c.requires.0)
+    omega (arith, c.parent-p.ensures, c.args.row.falls.down a.v c.requires.0 c.requires.1, few a.row.n a.row.row.now c.args.row.falls)
 
 pub offset_bounds-self-p : goal.offset_bounds-self-p
 offset_bounds-self-p c = omega (arith, low c)
@@ -27,7 +27,7 @@ pub returns-then-self-p-ne-NO_NODE : goal.returns-then-self-p-ne-NO_NODE
 returns-then-self-p-ne-NO_NODE c =
     let a = c.args in
     let z : 0 < entry a.self.now.next c.parent-p.result = omega arith in
-    paths_begin _ _ c.requires.0 _ _ _ c.requires.3 c.requires.1 c.requires.2 (rw c.parent-p.ensures at z)
+    paths_begin _ _ c.args.row.falls _ _ _ c.requires.2 c.requires.0 c.requires.1 (rw c.parent-p.ensures at z)
 
 pub offset_bounds-self-p-2 : goal.offset_bounds-self-p-2
 offset_bounds-self-p-2 c = omega (arith, low (goal.at.offset_bounds-self-p-2 c).After-parent-p)
@@ -45,4 +45,4 @@ pub returns : goal.returns
 returns c =
     let a = c.args in
     let z : entry a.self.now.next c.parent-p.result ≡ 0 = omega arith in
-    rw c.parent-p.ensures (paths_on _ _ c.requires.0 _ _ _ c.requires.3 c.requires.1 c.requires.2 (rw c.parent-p.ensures at z))
+    rw c.parent-p.ensures (paths_on _ _ c.args.row.falls _ _ _ c.requires.2 c.requires.0 c.requires.1 (rw c.parent-p.ensures at z))

@@ -1,7 +1,7 @@
--- `conflict::reach::Ways::seed` fills the table up to v. Assumes nothing.
+-- `conflict::ways::Ways::seed` fills the table up to v. Assumes nothing.
 use Rattle.std.proofs.Common.{◌≡◌, arith, length-set}
 use Rattle.conflict.specs.GatherLaws.{seeding_start, seeding_more}
-use Rattle.conflict.proofs.reach.Ways.seed.Goals as goal
+use Rattle.conflict.proofs.ways.Ways.seed.Goals as goal
 
 pub loop-v-init : goal.loop-v-init
 loop-v-init c = (omega arith, seeding_start _ _ _ _ _)
