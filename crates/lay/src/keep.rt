@@ -3,7 +3,7 @@ ghost use Rattle.std.specs.Prelude.{◌≡◌, cond, ◌<◌, ◌≤◌, ltb};
 ghost use Rattle.trees.specs.Checks.{most_samples};
 ghost use Rattle.trees.specs.Tables.{table_words};
 ghost use Rattle.newick.specs.Grammar.{sample_bound};
-ghost use Rattle.lay.specs.Laying.{node_of, next_of, lower};
+ghost use Rattle.lay.specs.Laying.{capped};
 ghost use Rattle.lay.specs.Keeping.{Takes, Parts, Shuts};
 
 use crate::tables::{MARKS, Marks, ROW, Row, link};
@@ -15,26 +15,6 @@ pub struct Kept {
     pub root: usize,
     pub next: usize,
     pub large: Option<usize>,
-}
-
-// The node of a pair at a comma: its own, or the next number where it has none yet.
-fn node_of(node: usize, next: usize) -> usize
-    requires { (node ≤ table_words) × (next ≤ table_words) }
-    ensures { (result ≡ node_of node next) × (result ≤ table_words) }
-{
-    if node == 0 { next } else { node }
-}
-
-// The next number that is free after a comma. None is counted on past the words of a row.
-fn next_of(node: usize, next: usize) -> usize
-    requires { next ≤ table_words }
-    ensures { (result ≡ next_of node next) × (result ≤ table_words) }
-{
-    if node == 0 && next < ROW {
-        next + 1
-    } else {
-        next
-    }
 }
 
 // A pair's node is 0 while it has none: an `Option` of it would be two words in each frame of the recursion.
@@ -51,13 +31,25 @@ impl Kept {
         self.root = x;
     }
 
-    // A comma: the subtree before it is linked to the node of its pair, which is the answer.
+    // The next number that is free, handed out. None is counted on past the words of a row.
+    fn fresh(&mut self) -> usize
+        requires { self.old.next ≤ table_words }
+        ensures value { result ≡ self.old.next }
+        ensures counted { self.new ≡ record self.old { next = capped self.old.next } }
+    {
+        let node = self.next;
+        if node < ROW {
+            self.next = node + 1;
+        }
+        node
+    }
+
+    // A comma: the subtree before it is linked to the node of its pair, which is the answer: its own, or a fresh one.
     pub(crate) fn comma(&mut self, node: usize, row: &mut Row) -> usize
         requires { (node ≤ table_words) × (self.old.root < sample_bound) × (self.old.next ≤ table_words) }
         ensures { Parts node self.old row.old result self.new row.new }
     {
-        let v = node_of(node, self.next);
-        self.next = next_of(node, self.next);
+        let v = if node == 0 { self.fresh() } else { node };
         link(self.root, v, row);
         v
     }
