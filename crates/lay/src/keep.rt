@@ -4,7 +4,7 @@ ghost use Rattle.trees.specs.Checks.{most_samples};
 ghost use Rattle.trees.specs.Tables.{table_words};
 ghost use Rattle.newick.specs.Grammar.{sample_bound};
 ghost use Rattle.lay.specs.Laying.{capped};
-ghost use Rattle.lay.specs.Keeping.{Takes, Parts, Shuts};
+ghost use Rattle.lay.specs.Keeping.{number, Named, Takes, Parts, Shuts};
 
 use crate::tables::{MARKS, Marks, ROW, Row, link};
 
@@ -17,7 +17,6 @@ pub struct Kept {
     pub large: Option<usize>,
 }
 
-// A pair's node is 0 while it has none: an `Option` of it would be two words in each frame of the recursion.
 impl Kept {
     // Sample x: it stands once more, or is too large to have a mark.
     pub(crate) fn take(&mut self, x: usize, marks: &mut Marks)
@@ -45,24 +44,27 @@ impl Kept {
     }
 
     // A comma: the subtree before it is linked to the node of its pair, which is the answer: its own, or a fresh one.
-    pub(crate) fn comma(&mut self, node: usize, row: &mut Row) -> usize
-        requires { (node ≤ table_words) × (self.old.root < sample_bound) × (self.old.next ≤ table_words) }
-        ensures { Parts node self.old row.old result self.new row.new }
+    pub(crate) fn comma(&mut self, node: Option<usize>, row: &mut Row) -> usize
+        requires { Named node × (number node ≤ table_words) × (self.old.root < sample_bound) × (self.old.next ≤ table_words) }
+        ensures { Parts (number node) self.old row.old result self.new row.new }
     {
-        let v = if node == 0 { self.fresh() } else { node };
+        let v = match node {
+            Some(v) => v,
+            None => self.fresh(),
+        };
         link(self.root, v, row);
         v
     }
 
     // A closing bracket: the subtree before it is linked to the pair's node. A pair with one subtree has none, and adds
     // nothing to the row (RULES 14.9).
-    pub(crate) fn shut(&mut self, node: usize, row: &mut Row)
-        requires { (node ≤ table_words) × (self.old.root < sample_bound) }
-        ensures { Shuts node self.old row.old self.new row.new }
+    pub(crate) fn shut(&mut self, node: Option<usize>, row: &mut Row)
+        requires { Named node × (number node ≤ table_words) × (self.old.root < sample_bound) }
+        ensures { Shuts (number node) self.old row.old self.new row.new }
     {
-        if node != 0 {
-            link(self.root, node, row);
-            self.root = node;
+        if let Some(v) = node {
+            link(self.root, v, row);
+            self.root = v;
         }
     }
 }

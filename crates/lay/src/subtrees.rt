@@ -2,16 +2,22 @@
 ghost use Rattle.std.specs.Prelude.{◌≡◌, ◌<◌, ◌≤◌, length};
 ghost use Rattle.trees.specs.Tables.{table_words};
 ghost use Rattle.newick.specs.Grammar.{sample_bound};
-ghost use Rattle.lay.specs.Keeping.{Closed, Laid};
+ghost use Rattle.lay.specs.Keeping.{number, Named, Closed, Laid};
 
 use crate::keep::Kept;
 use crate::tables::{Marks, Row};
 use scan::{Start, Stop, closes, look, starts};
 
 // The closing bracket of a pair at e, and what follows it.
-fn close(s: &[u8], e: usize, node: usize, kept: &mut Kept, row: &mut Row) -> Result<usize, Stop>
-    requires { (node ≤ table_words) × (kept.old.root < sample_bound) }
-    ensures { Closed s.now e node kept.old row.old result kept.new row.new }
+fn close(
+    s: &[u8],
+    e: usize,
+    node: Option<usize>,
+    kept: &mut Kept,
+    row: &mut Row,
+) -> Result<usize, Stop>
+    requires { Named node × (number node ≤ table_words) × (kept.old.root < sample_bound) }
+    ensures { Closed s.now e (number node) kept.old row.old result kept.new row.new }
 {
     if look(s, e) != b')' {
         return Err(Stop { at: e });
@@ -41,13 +47,13 @@ pub fn subtree(
         Start::Pair(a) => a,
     };
     let mut j = a + 1;
-    let mut node = 0;
+    let mut node = None;
     loop {
         let e = subtree(s, j, left - 1, kept, row, marks)?;
         if look(s, e) != b',' {
             return close(s, e, node, kept, row);
         }
-        node = kept.comma(node, row);
+        node = Some(kept.comma(node, row));
         j = e + 1;
     }
 }
