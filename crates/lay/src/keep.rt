@@ -1,6 +1,5 @@
 // What a reading keeps besides the row and the marks, and how a sample, a comma and a closing bracket change it.
-ghost use Rattle.std.specs.Prelude.{◌≡◌, cond, ◌<◌, ◌≤◌, ltb};
-ghost use Rattle.trees.specs.Checks.{most_samples};
+ghost use Rattle.std.specs.Prelude.{◌≡◌, ◌<◌, ◌≤◌};
 ghost use Rattle.trees.specs.Tables.{table_words};
 ghost use Rattle.newick.specs.Grammar.{sample_bound};
 ghost use Rattle.lay.specs.Laying.{capped};

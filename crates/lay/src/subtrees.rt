@@ -1,5 +1,5 @@
 // A subtree of a text, by recursion over its pairs.
-ghost use Rattle.std.specs.Prelude.{◌≡◌, ◌<◌, ◌≤◌, length};
+ghost use Rattle.std.specs.Prelude.{◌<◌, ◌≤◌, length};
 ghost use Rattle.trees.specs.Tables.{table_words};
 ghost use Rattle.newick.specs.Grammar.{sample_bound};
 ghost use Rattle.lay.specs.Keeping.{number, Named, Closed, Laid};
