@@ -27,7 +27,8 @@ fn close(
     Ok(end)
 }
 
-// A subtree from a place on, in which `left` brackets may stand in one another.
+// A subtree from a place on, in which `left` brackets may stand in one another. What is kept, the row and the marks are
+// lent apart: each step has only what it changes.
 pub fn subtree(
     s: &[u8],
     at: usize,

@@ -7,7 +7,7 @@ ghost use Rattle.lay.specs.Laying.{once_more};
 use judge::MOST_SAMPLES;
 
 // The words of the longest row.
-pub const ROW: usize = 1024;
+pub const ROW: usize = 2 * MOST_SAMPLES;
 
 pub type Row = [u16; ROW];
 
