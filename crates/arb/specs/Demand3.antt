@@ -1,5 +1,5 @@
 -- Demand 3 (RULES D3) of calls as they were made: by their answers, and the words they left. Assumes nothing.
-use Rattle.std.specs.Prelude.{ℕ, ◌≡◌, List, map, true, length}
+use Rattle.std.specs.Prelude.{ℕ, ◌≡◌, List, map, true, length, Ok, Err}
 use Rattle.std.proofs.Common.{sym, ap, ◌∙◌}
 use Rattle.std.proofs.Math.Option.{some}
 use Rattle.trees.specs.Checks.{accepted, ◌⊳◌}
@@ -13,9 +13,8 @@ use Rattle.runs.specs.Histories.{Call, add, after, answers, all_refused, is_add,
 use Rattle.runs.proofs.HistoryLaws.{study_present, study_groups}
 use Rattle.runs.proofs.FreshLaws.{demand_3, stored_anew}
 use Rattle.runs.proofs.RoomLaws.{other_checks, room_taken, room_never}
-use Rattle.judge.specs.declared.Answer.{Answer}
-use Rattle.judge.specs.declared.Answer.TheVariants.{Accepted, Refused}
-use Rattle.judge.specs.Verdicts.{verdict}
+use Rattle.judge.specs.declared.Reason.TheVariants.{Full}
+use Rattle.judge.specs.Verdicts.{Answer, verdict}
 use Rattle.judge.specs.VerdictLaws.{verdict_injective}
 use Rattle.arb.specs.Determined.{Leaves}
 use Rattle.arb.specs.Made.{Made, Used, last_given, AnyCall, Reply, AllGive}
@@ -46,9 +45,9 @@ module _ {n : ℕ} {w : List ℕ} {h : List Call} {xs : List Answer} {z : List �
     renewed = demand_3 n w h given opens s.named (rw (used_answers s) at anew) fresh same
 
     -- its opening was accepted, each of the runs was, and its words are those of the study
-    pub demand_3_calls : (b ≡ Accepted) × (every is_accepted (map verdict bs) ≡ true) × (y ≡ z)
+    pub demand_3_calls : (b ≡ Ok tt) × (every is_accepted (map verdict bs) ≡ true) × (y ≡ z)
     demand_3_calls = (
-      verdict_injective b Accepted (f.answer ∙ renewed.opens),
+      verdict_injective b (Ok tt) (f.answer ∙ renewed.opens),
       ap (every is_accepted) (made_answers u (adds given) bs y m ∙ ap (λ (v : List ℕ). answers v (adds given)) f.words) ∙ renewed.takes,
       made_after u (adds given) bs y m ∙ ap (λ (v : List ℕ). after v (adds given)) f.words ∙ renewed.words ∙ sym (used_after s),
     )
@@ -59,7 +58,7 @@ module _ {n : ℕ} {w : List ℕ} {h : List Call} {xs : List Answer} {z : List �
 
 -- the room of a withdrawn run takes the next add: after an accepted withdrawal and calls that were all refused, an add is answered by its checks
 -- other than 12 alone
-module _ (w : List ℕ) (i : ℕ) (v : List ℕ) (a : Leaves (withdrawn w i) Accepted v) (h : List Call) (xs : List Answer) (z : List ℕ) (m : Made v h xs z)
+module _ (w : List ℕ) (i : ℕ) (v : List ℕ) (a : Leaves (withdrawn w i) (Ok tt) v) (h : List Call) (xs : List Answer) (z : List ℕ) (m : Made v h xs z)
     (none : all_refused (map verdict xs) ≡ true) (j : ℕ) (row : List ℕ) (b : Answer) (y : List ℕ) (l : Leaves (added z j row) b y) where
   still : z ≡ after (withdrawn w i).words h
   still = made_after v h xs z m ∙ ap (λ (x : List ℕ). after x h) a.words
@@ -71,5 +70,5 @@ module _ (w : List ℕ) (i : ℕ) (v : List ℕ) (a : Leaves (withdrawn w i) Acc
   demand_3_room = l.answer ∙ (rw still (room_taken w i h (sym a.answer) refusals j row))
 
   -- and so never refused with 12
-  pub demand_3_never : (p : ℕ) → b ≡ Refused 12 p → ⊥
+  pub demand_3_never : (p : ℕ) → b ≡ Err (record { reason = Full; place = p }) → ⊥
   demand_3_never p e = room_never w i h (sym a.answer) refusals j row p (rw still at (sym l.answer ∙ ap verdict e))

@@ -6,16 +6,13 @@ use Rattle.trees.specs.Outcomes.{Outcome}
 use Rattle.trees.specs.RowCalls.{renumbering, comparing}
 use Rattle.runs.specs.Calls.{opened, added, withdrawn}
 use Rattle.runs.specs.Reports.{Report, reported}
-use Rattle.judge.specs.declared.Answer.{Answer}
-use Rattle.judge.specs.Verdicts.{verdict}
+use Rattle.judge.specs.Verdicts.{Answer, verdict}
 use Rattle.judge.specs.VerdictLaws.{verdict_injective}
-use Rattle.compare.specs.declared.Comparison.{Comparison}
-use Rattle.compare.specs.Comparisons.{comparison}
+use Rattle.compare.specs.Comparisons.{Compared, comparison}
 use Rattle.compare.specs.ComparisonLaws.{comparison_injective}
 use Rattle.newick.specs.ReadCalls.{reading}
 use Rattle.newick.specs.RowText.{Wanted, writing}
-use Rattle.writer.specs.declared.calls.Written.{Written}
-use Rattle.writer.specs.Writings.{written_verdict}
+use Rattle.writer.specs.Writings.{Written, written_verdict}
 use Rattle.writer.specs.WritingsLaws.{written_injective}
 
 pub judge_determined : (n : ℕ) (row : List ℕ) (a b : Answer) → verdict a ≡ judged n row → verdict b ≡ judged n row → a ≡ b
@@ -44,7 +41,7 @@ pub renumber_determined : (n : ℕ) (row out : List ℕ) (a b : Answer) (v w : L
     → Leaves (renumbering n row out) a v → Leaves (renumbering n row out) b w → (a ≡ b) × (v ≡ w)
 renumber_determined n row out = outcome_determined (renumbering n row out)
 
-pub compare_determined : (n : ℕ) (first second : List ℕ) (a b : Comparison)
+pub compare_determined : (n : ℕ) (first second : List ℕ) (a b : Compared)
     → comparison a ≡ comparing n first second → comparison b ≡ comparing n first second → a ≡ b
 compare_determined n first second a b p q = comparison_injective a b (p ∙ sym q)
 

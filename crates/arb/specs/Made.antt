@@ -1,19 +1,16 @@
 -- Calls as they were made, one after another on a study's words, each meeting its promise: what they gave back, and the words in the end.
-use Rattle.std.specs.Prelude.{ℕ, ◌≡◌, List, [], ◌∷◌, map, true}
+use Rattle.std.specs.Prelude.{ℕ, ◌≡◌, List, [], ◌∷◌, map, true, Ok}
 use Rattle.std.proofs.Math.Option.{Option}
 use Rattle.trees.specs.Checks.{judged}
 use Rattle.trees.specs.RowCalls.{renumbering, comparing}
 use Rattle.runs.specs.Calls.{opened, added, withdrawn}
 use Rattle.runs.specs.Reports.{reported}
 use Rattle.runs.specs.Histories.{Call, identified, called, last_accepted}
-use Rattle.judge.specs.declared.Answer.{Answer}
-use Rattle.judge.specs.declared.Answer.TheVariants.{Accepted}
-use Rattle.judge.specs.Verdicts.{verdict}
-use Rattle.compare.specs.declared.Comparison.{Comparison}
-use Rattle.compare.specs.Comparisons.{comparison}
+use Rattle.judge.specs.Verdicts.{Answer, verdict}
+use Rattle.compare.specs.Comparisons.{Compared, comparison}
 use Rattle.newick.specs.ReadCalls.{reading}
 use Rattle.newick.specs.RowText.{Wanted, writing}
-use Rattle.writer.specs.declared.calls.Written.{Written}
+use Rattle.writer.specs.Writings.{Written}
 use Rattle.arb.specs.Determined.{Leaves, Reports, Fills}
 
 -- calls made one after another on words w, where `One` is what one call promises: what they gave back, and the words z in the end
@@ -33,7 +30,7 @@ Made w h xs z = InTurn (λ v c a u. Leaves (called v c) a u) w h xs z
 -- and now the study's words are z
 pub record Used (n : ℕ) (w : List ℕ) (h : List Call) (xs : List Answer) (z : List ℕ) : Type 0 where
   pub empty : List ℕ
-  pub opens : Leaves (opened n w) Accepted empty
+  pub opens : Leaves (opened n w) (Ok tt) empty
   pub named : identified h ≡ true
   pub made : Made empty h xs z
 
@@ -60,7 +57,7 @@ pub data Reply : Type 0 where
   says : Answer → Reply
   writes : Answer → List ℕ → Reply
   writes_both : Answer → List ℕ → List ℕ → Reply
-  counts : Comparison → Reply
+  counts : Compared → Reply
   fills : Written → List ℕ → Reply
 
 -- what each call promises: on the study's words w this reply, and these words afterwards
@@ -71,7 +68,7 @@ pub data Gives (w : List ℕ) : AnyCall → Reply → List ℕ → Type 0 where
   reporting : {p : ℕ} {x y : List ℕ} {a : Answer} {r s : List ℕ} → Reports (reported w p x y) a r s → Gives w (reports p x y) (writes_both a r s) w
   judging : {n : ℕ} {row : List ℕ} {a : Answer} → verdict a ≡ judged n row → Gives w (judges n row) (says a) w
   rewriting : {n : ℕ} {row out : List ℕ} {a : Answer} {r : List ℕ} → Leaves (renumbering n row out) a r → Gives w (renumbers n row out) (writes a r) w
-  counting : {n : ℕ} {r q : List ℕ} {a : Comparison} → comparison a ≡ comparing n r q → Gives w (compares n r q) (counts a) w
+  counting : {n : ℕ} {r q : List ℕ} {a : Compared} → comparison a ≡ comparing n r q → Gives w (compares n r q) (counts a) w
   taking_in : {n : ℕ} {text out : List ℕ} {a : Answer} {r : List ℕ} → Leaves (reading n text out) a r → Gives w (reads n text out) (writes a r) w
   printing : {n : ℕ} {row : List ℕ} {s : Wanted} {text : List ℕ} {a : Written} {l : List ℕ}
       → Fills (writing n row s text) a l → Gives w (prints n row s text) (fills a l) w

@@ -1,5 +1,5 @@
 -- Calls as they were made: the same calls on equal words gave back the same, and equal groups were stored as equal words. Assumes nothing.
-use Rattle.std.specs.Prelude.{ℕ, ◌≤◌, ◌≡◌, refl, ◌↔◌, List, [], ◌∷◌, map}
+use Rattle.std.specs.Prelude.{Ok, ℕ, ◌≤◌, ◌≡◌, refl, ◌↔◌, List, [], ◌∷◌, map}
 use Rattle.std.proofs.Common.{sym, ap, ◌∙◌}
 use Rattle.std.proofs.Math.Option.{some}
 use Rattle.trees.specs.Checks.{Verdict}
@@ -9,9 +9,7 @@ use Rattle.runs.specs.Words.{samples, runs, most_identifier}
 use Rattle.runs.specs.Calls.{added}
 use Rattle.runs.specs.Histories.{Call, add, called, after, answers, study_after, study_answers, SameGroups}
 use Rattle.runs.proofs.StoredLaws.{added_equal, study_equal}
-use Rattle.judge.specs.declared.Answer.{Answer}
-use Rattle.judge.specs.declared.Answer.TheVariants.{Accepted}
-use Rattle.judge.specs.Verdicts.{verdict}
+use Rattle.judge.specs.Verdicts.{Answer, verdict}
 use Rattle.arb.specs.Determined.{Leaves, open_determined, add_determined, withdraw_determined, report_determined, judge_determined}
 use Rattle.arb.specs.Determined.{renumber_determined, compare_determined, read_determined, write_determined}
 use Rattle.arb.specs.Made.{Made, Used, last_given, AnyCall, Reply, says, counts, Gives, opening, adding, withdrawing, reporting}
@@ -72,7 +70,7 @@ all_determined w (c ∷ cs) (x ∷ xs) (y ∷ ys) u v p q =
 
 -- of two accepted adds, to any two studies over the same number of samples and under any two identifiers
 pub add_equal : (w v : List ℕ) (i j : ℕ) (r q : List ℕ) (y z : List ℕ) → samples v ≡ samples w → i ≤ most_identifier → j ≤ most_identifier
-    → Leaves (added w i r) Accepted y → Leaves (added v j q) Accepted z
+    → Leaves (added w i r) (Ok tt) y → Leaves (added v j q) (Ok tt) z
     → (a b : Run) → find i (runs y) ≡ some a → find j (runs z) ≡ some b → (a.row ≡ b.row) ↔ SameGroups (samples w) r q
 add_equal w v i j r q y z s l m f g = rw (f.words, g.words) (added_equal w v i j r q s l m (sym f.answer) (sym g.answer))
 

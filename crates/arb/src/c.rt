@@ -13,8 +13,7 @@ ghost use Rattle.writer.specs.Writings.{written_verdict};
 ghost use Rattle.arb.specs.Packing.{packed};
 
 use compare::Comparison;
-use judge::Answer;
-use writer::Written;
+use judge::Refusal;
 
 // How many numbers, places and counts a packed answer can distinguish.
 const NUMBERS: u64 = 256;
@@ -31,19 +30,19 @@ const FIRST_FROM: u64 = 4294967296;
 const SECOND_FROM: u64 = 281474976710656;
 
 // A refusal as one number: its number in the low 8 bits, its place above them.
-fn pack_refusal(number: usize, place: usize) -> u64
+pub fn pack_refusal(number: usize, place: usize) -> u64
     ensures { result ≡ packed (refused number place) }
 {
     number as u64 % NUMBERS + NUMBERS * (place as u64 % PLACES)
 }
 
 // An answer as one number.
-pub fn pack(a: Answer) -> u64
-    ensures { result ≡ packed (verdict a) }
+pub fn pack(answer: Result<(), Refusal>) -> u64
+    ensures { result ≡ packed (verdict answer) }
 {
-    match a {
-        Answer::Accepted => 0,
-        Answer::Refused(number, place) => pack_refusal(number, place),
+    match answer {
+        Ok(()) => 0,
+        Err(refusal) => pack_refusal(refusal.reason.number(), refusal.place),
     }
 }
 
@@ -56,12 +55,12 @@ fn pack_counts(both: usize, first: usize, second: usize) -> u64
 }
 
 // An answer of comparing as one number.
-pub fn pack_comparison(a: Comparison) -> u64
-    ensures { result ≡ packed (comparison a) }
+pub fn pack_comparison(answer: Result<Comparison, Refusal>) -> u64
+    ensures { result ≡ packed (comparison answer) }
 {
-    match a {
-        Comparison::Counted(both, first, second) => pack_counts(both, first, second),
-        Comparison::Refused(number, place) => pack_refusal(number, place),
+    match answer {
+        Ok(counts) => pack_counts(counts.both, counts.first, counts.second),
+        Err(refusal) => pack_refusal(refusal.reason.number(), refusal.place),
     }
 }
 
@@ -73,11 +72,11 @@ fn pack_length(length: usize) -> u64
 }
 
 // An answer of writing as one number.
-pub fn pack_written(a: Written) -> u64
-    ensures { result ≡ packed (written_verdict a) }
+pub fn pack_written(answer: Result<usize, Refusal>) -> u64
+    ensures { result ≡ packed (written_verdict answer) }
 {
-    match a {
-        Written::Length(length) => pack_length(length),
-        Written::Refused(number, place) => pack_refusal(number, place),
+    match answer {
+        Ok(length) => pack_length(length),
+        Err(refusal) => pack_refusal(refusal.reason.number(), refusal.place),
     }
 }

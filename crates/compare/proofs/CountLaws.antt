@@ -2,15 +2,15 @@
 use Prim.Native.Nat.{ℕ, ◌+◌, ◌-◌, ◌≤◌, ◌<◌}
 use mathlib.Core.Path.{◌≡◌, sym, ap, ◌∙◌}
 use mathlib.Core.List.{List}
-use mathlib.Core.Bool.{not}
+use mathlib.Core.Bool.{not, true}
 use native.Mathlib.Omega.{arith}
 use lib.Dec.{eqb}
 use lib.ListN.{length, get_or, take}
 use lib.Seq.{length-take-le}
 use Rattle.trees.specs.Lists.{range, count}
 use Rattle.trees.specs.Rows.{nodes, group_at, holds}
-use Rattle.trees.specs.Checks.{counted, most_samples, row_words}
-use Rattle.trees.specs.Valid.{Valid, Standard}
+use Rattle.trees.specs.Checks.{counted, judged, most_samples, row_words}
+use Rattle.trees.specs.Valid.{Standard, is_accepted, standard}
 use Rattle.trees.specs.Numbering.{renumbered}
 use Rattle.trees.specs.Comparing.{shared, alone, nontrivial, compared}
 use Rattle.trees.specs.Tables.{Tabled, table_words}
@@ -18,6 +18,8 @@ use Rattle.trees.specs.Mates.{no_mate, mate_of}
 use Rattle.trees.proofs.ListLaws.{in-range, count_same}
 use Rattle.trees.proofs.RowLaws.{inner_two}
 use Rattle.trees.proofs.NumberingLaws.{renumbered_standard}
+use Rattle.trees.proofs.StandardLaws.{standard_from}
+use Rattle.judge.proofs.KnownRows.{known_valid}
 use Rattle.trees.proofs.MateLaws.{mate_holds}
 use Rattle.trees.proofs.ComparingLaws.{shared_comm, shared_alone, nontrivial_strict, compared_renumbered, nontrivial_nodes, shared_standard}
 
@@ -27,12 +29,15 @@ row_room n t e h = length-take-le (row_words n) t (omega arith)
 
 -- ---- valid rows, by way of their standard rows
 
-pub made_standard : {n : ℕ} {r x : List ℕ} → Valid n r → x ≡ renumbered n r → Standard n x
-made_standard {n} {r} ok e = rw e (renumbered_standard n r ok)
+pub accepted_most : (n : ℕ) (r : List ℕ) → is_accepted (judged n r) ≡ true → n ≤ most_samples
+accepted_most n r e = (known_valid n r e).most
 
-pub made_compared : {n : ℕ} {r q x y : List ℕ} → Valid n r → Valid n q → x ≡ renumbered n r → y ≡ renumbered n q
-    → compared n x y ≡ compared n r q
-made_compared {n} {r} {q} a b d e = rw (d, e) (sym (compared_renumbered n r q a b))
+pub made_standard : (n : ℕ) (r : List ℕ) {x : List ℕ} → is_accepted (judged n r) ≡ true → x ≡ renumbered n r → standard n x ≡ true
+made_standard n r ok e = rw e (standard_from n (renumbered n r) (renumbered_standard n r (known_valid n r ok)))
+
+pub made_compared : (n k : ℕ) (r q : List ℕ) {x y : List ℕ} → is_accepted (judged n r) ≡ true → is_accepted (judged k q) ≡ true → k ≡ n → x ≡ renumbered n r
+    → y ≡ renumbered k q → compared n x y ≡ compared n r q
+made_compared n k r q a b h d e = rw (d, e, h) (sym (compared_renumbered n r q (known_valid n r a) (rw h at (known_valid k q b))))
 
 -- ---- standard rows
 

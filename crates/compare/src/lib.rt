@@ -5,7 +5,6 @@ ghost use Rattle.std.specs.Prelude.{◌≡◌, not, map, ◌+◌, ◌≤◌, eqb
 ghost use Rattle.trees.specs.Lists.{range, count};
 ghost use Rattle.trees.specs.Rows.{nodes, group_at, holds};
 ghost use Rattle.trees.specs.Checks.{accepted, ◌⊳◌, fewest_samples, most_samples, row_words, row_checks};
-ghost use Rattle.trees.specs.Valid.{Valid, Standard};
 ghost use Rattle.trees.specs.Comparing.{compared};
 ghost use Rattle.trees.specs.Tables.{table_words};
 ghost use Rattle.trees.specs.Mates.{no_mate};
@@ -13,8 +12,8 @@ ghost use Rattle.trees.specs.RowCalls.{moved, compare_checks, comparing};
 ghost use Rattle.judge.specs.Verdicts.{verdict};
 ghost use Rattle.compare.specs.Comparisons.{counts_verdict, comparison};
 
-use judge::Refusal;
-use mates::Chart;
+use judge::{Refusal, StandardRow, ValidRow};
+use mates::{Chart, NO_MATE, Places, mates};
 use passes::{TABLE, Table};
 use quick::check_row;
 use row::{check_first, renumber_valid};
@@ -34,7 +33,7 @@ fn mated(a: usize, m: usize, mate: &Table) -> usize
 {
     let mut found: usize = 0;
     for v in a..m {
-        if mate[v] != mates::NO_MATE {
+        if mate[v] != NO_MATE {
             found += 1;
         }
     }
@@ -42,23 +41,32 @@ fn mated(a: usize, m: usize, mate: &Table) -> usize
 }
 
 // How many nodes after the root of a standard row have a group that another holds.
-fn common(n: usize, a: &[u16], b: &[u16]) -> usize
-    requires { Standard n a.now × Standard n b.now }
-    ensures { result ≡ count (λ v. holds n (group_at n a.now v) b.now) (range (n + 1) (nodes a.now)) }
+#[tactic(auto, using(passes::proofs::StandardRows::standard_rows))]
+fn common(a: StandardRow, b: StandardRow) -> usize
+    requires { b.n ≡ a.n }
+    ensures { result ≡ count (λ v. holds a.entry.n (group_at a.entry.n a.entry.row.now v) b.entry.row.now) (range (a.entry.n + 1) (nodes a.entry.row.now)) }
 {
-    let mate = mates::mates(n, a, &Chart::of(n, a), b);
-    mated(n + 1, judge::nodes(a), &mate)
+    let mut places = Places::EMPTY;
+    let mut mate: Table = [0; TABLE];
+    places.fill(a);
+    let chart = Chart {
+        reference: a,
+        places: &places,
+    };
+    mates(&chart, b, &mut mate);
+    mated(a.n + 1, judge::nodes(a.row), &mate)
 }
 
-// The counts of two standard rows: n + 1 groups of each are trivial.
-fn counts(n: usize, a: &[u16], b: &[u16]) -> Comparison
-    requires { Standard n a.now × Standard n b.now }
-    ensures { counts_verdict result ≡ compared n a.now b.now }
+// The counts of two standard rows over n samples: n + 1 groups of each are trivial.
+#[tactic(auto, using(passes::proofs::StandardRows::standard_rows))]
+fn counts(a: StandardRow, b: StandardRow) -> Comparison
+    requires { b.n ≡ a.n }
+    ensures { counts_verdict result ≡ compared a.entry.n a.entry.row.now b.entry.row.now }
 {
-    let both = common(n, a, b);
-    let known = n + 1 + both;
-    let first = judge::nodes(a) - known;
-    let second = judge::nodes(b) - known;
+    let both = common(a, b);
+    let known = a.n + 1 + both;
+    let first = judge::nodes(a.row) - known;
+    let second = judge::nodes(b.row) - known;
     Comparison {
         both,
         first,
@@ -67,24 +75,31 @@ fn counts(n: usize, a: &[u16], b: &[u16]) -> Comparison
 }
 
 // The counts of two valid rows, by way of their standard rows, written to a and b.
-fn counts_by(n: usize, first: &[u16], second: &[u16], a: &mut [u16], b: &mut [u16]) -> Comparison
-    requires { Valid n first.now × Valid n second.now × (length a.old ≡ row_words n) × (length b.old ≡ row_words n) }
-    ensures { counts_verdict result ≡ compared n first.now second.now }
+fn counts_by(first: ValidRow, second: ValidRow, a: &mut [u16], b: &mut [u16]) -> Comparison
+    requires { (second.n ≡ first.n) × (length a.old ≡ row_words first.n) × (length b.old ≡ row_words first.n) }
+    ensures { counts_verdict result ≡ compared first.entry.n first.entry.row.now second.entry.row.now }
 {
-    renumber_valid(n, first, a);
-    renumber_valid(n, second, b);
-    counts(n, a, b)
+    renumber_valid(first, a);
+    renumber_valid(second, b);
+    counts(
+        StandardRow { n: first.n, row: a },
+        StandardRow {
+            n: second.n,
+            row: b,
+        },
+    )
 }
 
 // The counts of two valid rows.
-fn counts_valid(n: usize, first: &[u16], second: &[u16]) -> Comparison
-    requires { Valid n first.now × Valid n second.now }
-    ensures { counts_verdict result ≡ compared n first.now second.now }
+#[tactic(auto, using(crate::proofs::CountLaws::accepted_most))]
+fn counts_valid(first: ValidRow, second: ValidRow) -> Comparison
+    requires { second.n ≡ first.n }
+    ensures { counts_verdict result ≡ compared first.entry.n first.entry.row.now second.entry.row.now }
 {
-    let w = 2 * n;
+    let w = 2 * first.n;
     let mut a: Table = [0; TABLE];
     let mut b: Table = [0; TABLE];
-    counts_by(n, first, second, &mut a[..w], &mut b[..w])
+    counts_by(first, second, &mut a[..w], &mut b[..w])
 }
 
 // Checks 5 to 10 of the second row, with 2n added to the place.
@@ -111,5 +126,7 @@ pub fn compare(n: usize, first: &[u16], second: &[u16]) -> Result<Comparison, Re
     ensures { comparison result ≡ comparing n first.now second.now }
 {
     rows_given(n, first, second)?;
-    Ok(counts_valid(n, first, second))
+    let first = ValidRow { n, row: first };
+    let second = ValidRow { n, row: second };
+    Ok(counts_valid(first, second))
 }

@@ -1,13 +1,13 @@
 -- The walk up to the first node above two, the pass that joins what each node of a reference row has got, and what its tables tell.
 -- Assumes nothing.
-use Rattle.std.specs.Prelude.{ℕ, suc, ◌+◌, ◌-◌, ◌≤◌, ◌<◌, ◌≡◌, ◌⊎◌, List, Bool, true, not, eqb}
-use Rattle.std.proofs.Common.{zero-le, sym, ap, ◌∙◌, subst, inl, inr, ⊎_elim, true≢false, arith, length-set, get_or-set_same, get_or-set_other, eqb-true}
+use Rattle.std.specs.Prelude.{ℕ, suc, ◌+◌, ◌≤◌, ◌<◌, ◌≡◌, ◌⊎◌, List, Bool, true, not, eqb, length, set}
+use Rattle.std.proofs.Common.{zero-le, sym, ap, ◌∙◌, subst, inl, inr, ⊎_elim, true≢false, arith, get_or-set_same, get_or-set_other, eqb-true}
 use Rattle.std.proofs.lemmas.Bool.{eqb-false}
 use Rattle.trees.specs.Groups.{Group, has, single, lowest}
 use Rattle.trees.specs.Rows.{nodes, parent, group_at, holds}
 use Rattle.trees.specs.Valid.{Standard}
 use Rattle.trees.specs.Falls.{Falls}
-use Rattle.trees.specs.Tables.{Tabled, Flags, Most, table_words, entry, size_at, least_at}
+use Rattle.trees.specs.Tables.{Tabled, Flags, table_words, entry, size_at, least_at}
 use Rattle.trees.specs.Passes.{part, Stepped, Starts}
 use Rattle.trees.specs.Mates.{from_end}
 use Rattle.trees.proofs.BoolLaws.{not_yes, decide}
@@ -26,53 +26,35 @@ use Rattle.conflict.specs.Spans.{Joined, up_from, lesser_of, Both, covers}
 use Rattle.conflict.specs.SpanLaws.{joined_same, sample_joined, same_joined, climbed_start, climbed_up, join}
 use Rattle.conflict.specs.HullLaws.{covers_agrees, sizes_hold}
 use Rattle.conflict.specs.Gathering.{Got, NodeOrNone, Joins, Walk, Levelled, Ends}
-use Rattle.conflict.specs.Gathering.{reach_at, Long, Stored, Begins, Seeding, Handed, Gathered, Gauged, Reached}
+use Rattle.conflict.specs.Gathering.{nothing, reach_at, Begins, Seeding, Handed, Gathered, Gauged, Reached}
 
--- ---- the tables
+-- ---- the table
 
 -- what is stored is there, and the others stay
-module _ (at lo hi at' lo' hi' : List ℕ) (v : ℕ) (t : Reach) (e : Stored at lo hi v t at' lo' hi') where
-  stored_long : Long at lo hi → Long at' lo' hi'
-  stored_long i = (rw e.0 (simp length-set i.0), rw e.1 (simp length-set i.1), rw e.2 (simp length-set i.2))
+module _ (t : List Reach) (v : ℕ) (x : Reach) where
+  stored_here : v < length t → x ≡ reach_at (set t v x) v
+  stored_here h = sym (get_or-set_same t v x nothing h)
 
-  stored_here : Long at lo hi → v < table_words → t ≡ reach_at at' lo' hi' v
-  stored_here i h = rw (
-    e.0,
-    e.1,
-    e.2,
-    get_or-set_same at v t.node 0 (omega (arith, i.0)),
-    get_or-set_same lo v t.first 0 (omega (arith, i.1)),
-    get_or-set_same hi v t.last 0 (omega (arith, i.2)),
-  )
-
-  stored_there : (u : ℕ) → (u ≡ v → ⊥) → reach_at at lo hi u ≡ reach_at at' lo' hi' u
-  stored_there u h = rw (
-    e.0,
-    e.1,
-    e.2,
-    get_or-set_other at v u t.node 0 h,
-    get_or-set_other lo v u t.first 0 h,
-    get_or-set_other hi v u t.last 0 h,
-  )
+  stored_there : (u : ℕ) → (u ≡ v → ⊥) → reach_at t u ≡ reach_at (set t v x) u
+  stored_there u h = sym (get_or-set_other t v u x nothing h)
 
 -- ---- the seeds
 
 module _ (n : ℕ) (r : List ℕ) (f l : ℕ → ℕ) where
-  pub seeding_start : (at lo hi : List ℕ) → Long at lo hi → Seeding n r f l 0 at lo hi
-  seeding_start at lo hi i = record { long = i; begins = λ v h. absurd (omega arith) }
+  pub seeding_start : (t : List Reach) → Seeding n r f l 0 t
+  seeding_start t = record { begins = λ v h. absurd (omega arith) }
 
-  pub seeding_more : (m : ℕ) (t : Reach) (at lo hi at' lo' hi' : List ℕ) → m < table_words → Seeding n r f l m at lo hi → Begins n r f l m t
-      → Stored at lo hi m t at' lo' hi' → Seeding n r f l (m + 1) at' lo' hi'
-  seeding_more m t at lo hi at' lo' hi' k i b e = record {
-    long = stored_long at lo hi at' lo' hi' m t e i.long;
+  pub seeding_more : (m : ℕ) (x : Reach) (t : List Reach) → m < length t → Seeding n r f l m t → Begins n r f l m x
+      → Seeding n r f l (m + 1) (set t m x)
+  seeding_more m x t k i b = record {
     begins = λ v h. ⊎_elim (λ q. here v (eqb-true v m q)) (λ q. there v (eqb-false v m q) h) (decide (eqb v m));
   }
     where
-      here : (v : ℕ) → v ≡ m → Begins n r f l v (reach_at at' lo' hi' v)
-      here v q = rw q (subst (Begins n r f l m) (stored_here at lo hi at' lo' hi' m t e i.long k) b)
+      here : (v : ℕ) → v ≡ m → Begins n r f l v (reach_at (set t m x) v)
+      here v q = rw q (subst (Begins n r f l m) (stored_here t m x k) b)
 
-      there : (v : ℕ) → (v ≡ m → ⊥) → v < m + 1 → Begins n r f l v (reach_at at' lo' hi' v)
-      there v q h = subst (Begins n r f l v) (stored_there at lo hi at' lo' hi' m t e v q) (i.begins v (omega arith))
+      there : (v : ℕ) → (v ≡ m → ⊥) → v < m + 1 → Begins n r f l v (reach_at (set t m x) v)
+      there v q h = subst (Begins n r f l v) (stored_there t m x v q) (i.begins v (omega arith))
 
 -- ---- the walk
 
@@ -187,12 +169,12 @@ module _ (n : ℕ) (q r : List ℕ) (qs : Standard n q) (rs : Standard n r) (f l
   qk : Falls n q
   qk = standard_falls n q qs
 
-  pub gathered_start : (at lo hi : List ℕ) → Seeding n r f l (nodes q) at lo hi → Gathered n q r f l 0 at lo hi
-  gathered_start at lo hi i = record { low = omega (arith, qk.low); long = i.long; got = λ p h. go p (i.begins p h) (side n p) }
+  pub gathered_start : (t : List Reach) → Seeding n r f l (nodes q) t → Gathered n q r f l 0 t
+  gathered_start t i = record { low = omega (arith, qk.low); got = λ p h. go p (i.begins p h) (side n p) }
     where
-      go : (p : ℕ) → Begins n r f l p (reach_at at lo hi p) → (p < n) ⊎ (n ≤ p) → Got n r f l (part n q 0 p) (reach_at at lo hi p)
+      go : (p : ℕ) → Begins n r f l p (reach_at t p) → (p < n) ⊎ (n ≤ p) → Got n r f l (part n q 0 p) (reach_at t p)
       go p b (inl k) = inr (subst (Joined n r f l (part n q 0 p)) (sym (b.leaf k)) (rw (part_start n q qk p)
-          (sample_joined n r (standard_falls n r rs) f l (single n p) p k (single_own n p k) (λ t m. single_has n p t m))))
+          (sample_joined n r (standard_falls n r rs) f l (single n p) p k (single_own n p k) (λ s m. single_has n p s m))))
       go p b (inr k) = inl (b.inner k, λ s. rw (part_start n q qk p) (not_yes (has (single n p) s) (λ m. none s m)))
         where
           none : (s : ℕ) → has (single n p) s ≡ true → ⊥
@@ -207,53 +189,51 @@ module _ (n : ℕ) (q r : List ℕ) (qs : Standard n q) (rs : Standard n r) (f l
   full_joined h t k g = let x = group_at n q h in got_joined x t (lowest x) (lowest_has x (group_full n q qs.valid h k)) g
 
   -- the node that is next is joined
-  next_joined : (d v p : ℕ) (at lo hi : List ℕ) → suc d < nodes q → Stepped n q d v p → Gathered n q r f l d at lo hi
-      → Joined n r f l (part n q d v) (reach_at at lo hi v)
-  next_joined d v p at lo hi h x i = let c = node_child n q qk d h in
+  next_joined : (d v p : ℕ) (t : List Reach) → suc d < nodes q → Stepped n q d v p → Gathered n q r f l d t
+      → Joined n r f l (part n q d v) (reach_at t v)
+  next_joined d v p t h x i = let c = node_child n q qk d h in
       let e : part n q d v ≡ group_at n q v = part_full n q qk d v x.low (rw x.is (omega (arith, c.2))) in
-      rw e (full_joined v (reach_at at lo hi v) x.low (rw e at (i.got v x.low)))
+      rw e (full_joined v (reach_at t v) x.low (rw e at (i.got v x.low)))
 
   -- the nodes that are handed on
-  pub next_nodes : (d v p : ℕ) (at lo hi : List ℕ) → suc d < nodes q → Stepped n q d v p → Gathered n q r f l d at lo hi
-      → NodeOrNone n r (entry at p) × (n ≤ entry at v) × (entry at v < nodes r)
-  next_nodes d v p at lo hi h x i = let j = next_joined d v p at lo hi h x i in
-      (got_node n r rs f l (part n q d p) (reach_at at lo hi p) (i.got p x.top), j.spans.low, j.spans.high)
+  pub next_nodes : (d v p : ℕ) (t : List Reach) → suc d < nodes q → Stepped n q d v p → Gathered n q r f l d t
+      → NodeOrNone n r (reach_at t p).node × (n ≤ (reach_at t v).node) × ((reach_at t v).node < nodes r)
+  next_nodes d v p t h x i = let j = next_joined d v p t h x i in
+      (got_node n r rs f l (part n q d p) (reach_at t p) (i.got p x.top), j.spans.low, j.spans.high)
 
-  pub gathered_step : (d v p : ℕ) (at lo hi at' lo' hi' : List ℕ) → suc d < nodes q → Stepped n q d v p → Gathered n q r f l d at lo hi
-      → Handed n r f l v p at lo hi at' lo' hi' → Gathered n q r f l (suc d) at' lo' hi'
-  gathered_step d v p at lo hi at' lo' hi' h x i t = record {
+  pub gathered_step : (d v p : ℕ) (t t' : List Reach) → length t ≡ table_words → suc d < nodes q → Stepped n q d v p
+      → Gathered n q r f l d t → Handed n r f l v p t t' → Gathered n q r f l (suc d) t'
+  gathered_step d v p t t' long h x i y = record {
     low = h;
-    long = stored_long at lo hi at' lo' hi' p t.got t.stored i.long;
     got = λ u k. ⊎_elim (λ e. here u (eqb-true u p e)) (λ e. there u k (eqb-false u p e)) (decide (eqb u p));
   }
     where
       both : Both (part n q d p) (part n q d v) (part n q (suc d) p)
       both = λ s. rw (x.up, x.is) (part_both n q qk d h s)
 
-      joined : Joined n r f l (part n q (suc d) p) t.got
-      joined = t.joins.joins (part n q d p) (part n q d v) (part n q (suc d) p) both (i.got p x.top)
-          (next_joined d v p at lo hi h x i)
+      joined : Joined n r f l (part n q (suc d) p) y.got
+      joined = y.joins.joins (part n q d p) (part n q d v) (part n q (suc d) p) both (i.got p x.top) (next_joined d v p t h x i)
 
-      here : (u : ℕ) → u ≡ p → Got n r f l (part n q (suc d) u) (reach_at at' lo' hi' u)
-      here u e = rw e (inr (subst (Joined n r f l (part n q (suc d) p))
-          (stored_here at lo hi at' lo' hi' p t.got t.stored i.long (omega (arith, x.top, few n q qk))) joined))
+      here : (u : ℕ) → u ≡ p → Got n r f l (part n q (suc d) u) (reach_at t' u)
+      here u e = rw (e, y.stored) (inr (subst (Joined n r f l (part n q (suc d) p))
+          (stored_here t p y.got (omega (arith, x.top, few n q qk))) joined))
 
-      there : (u : ℕ) → u < nodes q → (u ≡ p → ⊥) → Got n r f l (part n q (suc d) u) (reach_at at' lo' hi' u)
-      there u k e = rw (part_other n q qk d u h k (λ y. e (y ∙ sym (x.up ∙ ap (parent q) x.is))))
-          (subst (Got n r f l (part n q d u)) (stored_there at lo hi at' lo' hi' p t.got t.stored u e) (i.got u k))
+      there : (u : ℕ) → u < nodes q → (u ≡ p → ⊥) → Got n r f l (part n q (suc d) u) (reach_at t' u)
+      there u k e = rw (part_other n q qk d u h k (λ z. e (z ∙ sym (x.up ∙ ap (parent q) x.is))), y.stored)
+          (subst (Got n r f l (part n q d u)) (stored_there t p y.got u e) (i.got u k))
 
-  pub gathered_end : (d : ℕ) (at lo hi : List ℕ) → nodes q ≤ suc d → Gathered n q r f l d at lo hi → Gauged n q r f l at lo hi
-  gathered_end d at lo hi h i = record {
-    joined = λ u k. full_joined u (reach_at at lo hi u) k (rw (part_full n q qk d u k (omega (arith, due_low n q qk u k))) at (i.got u k));
+  pub gathered_end : (d : ℕ) (t : List Reach) → nodes q ≤ suc d → Gathered n q r f l d t → Gauged n q r f l t
+  gathered_end d t h i = record {
+    joined = λ u k. full_joined u (reach_at t u) k (rw (part_full n q qk d u k (omega (arith, due_low n q qk u k))) at (i.got u k));
   }
 
 -- ---- what the tables tell
 
-pub gauged_reached : (n : ℕ) (q r start first last at lo hi : List ℕ) → Tabled (least_at n r (entry start)) 0 (nodes r) first
-    → Tabled (least_at n r (from_end n (entry start))) 0 (nodes r) last → Gauged n q r (entry first) (entry last) at lo hi
-    → Reached n q r (entry start) at lo hi
-gauged_reached n q r start first last at lo hi tf tl g = record {
-  joined = λ h k. joined_same n r (entry first) (entry last) _ _ (group_at n q h) (reach_at at lo hi h) (λ u i. tf.is u zero-le i)
+pub gauged_reached : (n : ℕ) (q r start first last : List ℕ) (t : List Reach) → Tabled (least_at n r (entry start)) 0 (nodes r) first
+    → Tabled (least_at n r (from_end n (entry start))) 0 (nodes r) last → Gauged n q r (entry first) (entry last) t
+    → Reached n q r (entry start) t
+gauged_reached n q r start first last t tf tl g = record {
+  joined = λ h k. joined_same n r (entry first) (entry last) _ _ (group_at n q h) (reach_at t h) (λ u i. tf.is u zero-le i)
       (λ u i. tl.is u zero-le i) (g.joined h k);
 }
 
@@ -261,29 +241,24 @@ gauged_reached n q r start first last at lo hi tf tl g = record {
 flags_same : (f g : ℕ → Bool) (a b : ℕ) (t : List Bool) → ((v : ℕ) → a ≤ v → v < b → f v ≡ g v) → Flags f a b t → Flags g a b t
 flags_same f g a b t e i = record { is = λ v h k. i.is v h k ∙ e v h k }
 
--- the nodes reached are words of a table
-pub reached_low : (n : ℕ) (q r start at lo hi : List ℕ) → Standard n r → Reached n q r (entry start) at lo hi
-    → Most (table_words - 1) (nodes q) at
-reached_low n q r start at lo hi rs g = record { le = λ h k. omega (arith, (g.joined h k).spans.high, few n r (standard_falls n r rs)) }
-
-module _ (n : ℕ) (q r : List ℕ) (qs : Standard n q) (rs : Standard n r) (size start at lo hi : List ℕ)
-    (sized : Tabled (size_at n q) 0 (nodes q) size) (laid : Starts n q (entry start)) (g : Reached n q r (entry start) at lo hi)
+module _ (n : ℕ) (q r : List ℕ) (qs : Standard n q) (rs : Standard n r) (size start : List ℕ) (t : List Reach)
+    (sized : Tabled (size_at n q) 0 (nodes q) size) (laid : Starts n q (entry start)) (g : Reached n q r (entry start) t)
     (m : ℕ) (e : m ≡ nodes q) (flags : List Bool) where
   -- AGREEMENT BY TABLES
-  pub reached_agrees : Flags (λ h. covers n (entry size h) (entry start h) (entry lo h) (entry hi h)) n m flags
+  pub reached_agrees : Flags (λ h. covers n (entry size h) (entry start h) (reach_at t h).first (reach_at t h).last) n m flags
       → Flags (λ h. not (conflicts n (group_at n q h) r)) n (nodes q) flags
   reached_agrees u = rw e at (flags_same _ _ n m flags (λ h a b. is h (omega arith)) u)
     where
-      is : (h : ℕ) → h < nodes q → covers n (entry size h) (entry start h) (entry lo h) (entry hi h) ≡ not (conflicts n (group_at n q h) r)
+      is : (h : ℕ) → h < nodes q → covers n (entry size h) (entry start h) (reach_at t h).first (reach_at t h).last ≡ not (conflicts n (group_at n q h) r)
       is h k = rw (sized.is h zero-le k) (covers_agrees n r (standard_falls n r rs) q (standard_falls n q qs) (entry start) laid h k
-          (reach_at at lo hi h) (g.joined h k))
+          (reach_at t h) (g.joined h k))
 
   -- HOLDING BY TABLES
   pub reached_holds : (sizes : List ℕ) → Tabled (size_at n r) 0 (nodes r) sizes
-      → Flags (λ h. eqb (entry size h) (entry sizes (entry at h))) n m flags → Flags (λ h. holds n (group_at n q h) r) n (nodes q) flags
+      → Flags (λ h. eqb (entry size h) (entry sizes (reach_at t h).node)) n m flags → Flags (λ h. holds n (group_at n q h) r) n (nodes q) flags
   reached_holds sizes other u = rw e at (flags_same _ _ n m flags (λ h a b. is h a (omega arith)) u)
     where
-      is : (h : ℕ) → n ≤ h → h < nodes q → eqb (entry size h) (entry sizes (entry at h)) ≡ holds n (group_at n q h) r
-      is h a k = rw (sized.is h zero-le k, other.is (entry at h) zero-le (g.joined h k).spans.high)
-          (sizes_hold n r (standard_falls n r rs) q (standard_falls n q qs) (entry start) laid h k (reach_at at lo hi h) (g.joined h k)
+      is : (h : ℕ) → n ≤ h → h < nodes q → eqb (entry size h) (entry sizes (reach_at t h).node) ≡ holds n (group_at n q h) r
+      is h a k = rw (sized.is h zero-le k, other.is (reach_at t h).node zero-le (g.joined h k).spans.high)
+          (sizes_hold n r (standard_falls n r rs) q (standard_falls n q qs) (entry start) laid h k (reach_at t h) (g.joined h k)
           (inner_two n q qs h a k))

@@ -1,8 +1,8 @@
 -- The walk in a row r that joins two groups, and the pass that joins what each node of a reference row q has got.
-use Rattle.std.specs.Prelude.{ℕ, ◌≤◌, ◌<◌, min, ◌≡◌, ◌⊎◌, List, false, length, set}
+use Rattle.std.specs.Prelude.{ℕ, ◌≤◌, ◌<◌, min, ◌≡◌, ◌⊎◌, List, false, get_or, set}
 use Rattle.trees.specs.Groups.{Group, has}
 use Rattle.trees.specs.Rows.{nodes, group_at}
-use Rattle.trees.specs.Tables.{table_words, entry, least_at}
+use Rattle.trees.specs.Tables.{least_at}
 use Rattle.trees.specs.Passes.{part}
 use Rattle.trees.specs.Mates.{from_end}
 use Rattle.conflict.specs.declared.reach.Reach.{Reach}
@@ -38,18 +38,15 @@ pub record Ends (n : ℕ) (r : List ℕ) (f l : ℕ → ℕ) (x y c : Reach) : T
   pub ends : (a b : Reach) → n ≤ a.node → a.node < nodes r → b.node < nodes r → Walk n r f l a b x y
       → Joins n r f l a b c
 
--- ---- three tables
+-- ---- a table of what nodes reach
 
--- the entries of node v
-abbrev pub reach_at : List ℕ → List ℕ → List ℕ → ℕ → Reach
-reach_at at lo hi v = record { node = entry at v; first = entry lo v; last = entry hi v }
+-- what a group without a sample reaches
+abbrev pub nothing : Reach
+nothing = record { node = 0; first = 0; last = 0 }
 
-abbrev pub Long : List ℕ → List ℕ → List ℕ → Type 0
-Long at lo hi = (length at ≡ table_words) × (length lo ≡ table_words) × (length hi ≡ table_words)
-
--- t is stored at v
-abbrev pub Stored : List ℕ → List ℕ → List ℕ → ℕ → Reach → List ℕ → List ℕ → List ℕ → Type 0
-Stored at lo hi v t at' lo' hi' = (at' ≡ set at v t.node) × (lo' ≡ set lo v t.first) × (hi' ≡ set hi v t.last)
+-- the entry of node v
+abbrev pub reach_at : List Reach → ℕ → Reach
+reach_at t v = get_or t v nothing
 
 -- ---- the pass
 
@@ -59,26 +56,24 @@ pub record Begins (n : ℕ) (r : List ℕ) (f l : ℕ → ℕ) (v : ℕ) (t : Re
   pub inner : n ≤ v → t.node ≡ 0
 
 -- the nodes below m have what they start with
-pub record Seeding (n : ℕ) (r : List ℕ) (f l : ℕ → ℕ) (m : ℕ) (at lo hi : List ℕ) : Type 0 where
-  pub long : Long at lo hi
-  pub begins : (v : ℕ) → v < m → Begins n r f l v (reach_at at lo hi v)
+pub record Seeding (n : ℕ) (r : List ℕ) (f l : ℕ → ℕ) (m : ℕ) (t : List Reach) : Type 0 where
+  pub begins : (v : ℕ) → v < m → Begins n r f l v (reach_at t v)
 
 -- node p has been handed what v has got
-pub record Handed (n : ℕ) (r : List ℕ) (f l : ℕ → ℕ) (v p : ℕ) (at lo hi at' lo' hi' : List ℕ) : Type 0 where
+pub record Handed (n : ℕ) (r : List ℕ) (f l : ℕ → ℕ) (v p : ℕ) (t t' : List Reach) : Type 0 where
   pub got : Reach
-  pub joins : Joins n r f l (reach_at at lo hi p) (reach_at at lo hi v) got
-  pub stored : Stored at lo hi p got at' lo' hi'
+  pub joins : Joins n r f l (reach_at t p) (reach_at t v) got
+  pub stored : t' ≡ set t p got
 
 -- after d steps
-pub record Gathered (n : ℕ) (q r : List ℕ) (f l : ℕ → ℕ) (d : ℕ) (at lo hi : List ℕ) : Type 0 where
+pub record Gathered (n : ℕ) (q r : List ℕ) (f l : ℕ → ℕ) (d : ℕ) (t : List Reach) : Type 0 where
   pub low : d < nodes q
-  pub long : Long at lo hi
-  pub got : (p : ℕ) → p < nodes q → Got n r f l (part n q d p) (reach_at at lo hi p)
+  pub got : (p : ℕ) → p < nodes q → Got n r f l (part n q d p) (reach_at t p)
 
 -- after the last
-pub record Gauged (n : ℕ) (q r : List ℕ) (f l : ℕ → ℕ) (at lo hi : List ℕ) : Type 0 where
-  pub joined : (h : ℕ) → h < nodes q → Joined n r f l (group_at n q h) (reach_at at lo hi h)
+pub record Gauged (n : ℕ) (q r : List ℕ) (f l : ℕ → ℕ) (t : List Reach) : Type 0 where
+  pub joined : (h : ℕ) → h < nodes q → Joined n r f l (group_at n q h) (reach_at t h)
 
 -- with the first and the last places of the row's nodes, by the places of the reference
-abbrev pub Reached : ℕ → List ℕ → List ℕ → (ℕ → ℕ) → List ℕ → List ℕ → List ℕ → Type 0
-Reached n q r start at lo hi = Gauged n q r (least_at n r start) (least_at n r (from_end n start)) at lo hi
+abbrev pub Reached : ℕ → List ℕ → List ℕ → (ℕ → ℕ) → List Reach → Type 0
+Reached n q r start t = Gauged n q r (least_at n r start) (least_at n r (from_end n start)) t

@@ -14,7 +14,13 @@ use Rattle.trees.proofs.MajorityLaws.{majority_sound, majority_standard}
 use Rattle.runs.specs.Words.{samples, in_force, slot_start, slot_words, run_at, runs, most_runs}
 use Rattle.runs.proofs.WordLaws.{length_runs}
 use Rattle.runs.proofs.SlotLaws.{slot_within, formed_fits, formed_few}
+use Rattle.runs.proofs.FormedLaws.{formed_to}
+use Rattle.count.specs.declared.held.Held.{Held}
 use Rattle.count.specs.Studies.{Study, row_at}
+
+-- a study that the code holds
+pub held_study : (s : Held) → Study s.words.now s.n s.k
+held_study s = record { formed = formed_to s.words.now s.formed; over = s.over; force = s.force }
 
 module _ (w : List ℕ) (n k : ℕ) (study : Study w n k) where
   pub study_least : fewest_samples ≤ n

@@ -1,10 +1,12 @@
 // Counting over the runs of a study: how many hold each group of a row, which groups pass, and the agreed row.
 #![tactic(auto)]
 
+mod held;
 mod holding;
 mod plain;
 mod rule;
 
-pub use holding::{holders, run_row};
-pub use plain::{agreed_row, bare, copy};
+pub use held::Held;
+pub use holding::holders;
+pub use plain::{agreed_row, bare};
 pub use rule::{marks, references};

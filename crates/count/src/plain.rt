@@ -5,15 +5,14 @@ ghost use Rattle.trees.specs.Reporting.{agreed};
 ghost use Rattle.trees.specs.Thresholds.{InRange};
 ghost use Rattle.trees.specs.Majority.{majority};
 ghost use Rattle.runs.specs.Words.{runs};
-ghost use Rattle.count.specs.Studies.{Study};
 ghost use Rattle.count.specs.Plain.{bare_row, accepted};
 
-use crate::holding::{holders, run_row};
+use crate::held::Held;
+use crate::holding::holders;
 use crate::rule::{marks, references};
 use judge::{ROOT_MARK, nodes};
 use merge::merge;
-use passes::{TABLE, Table};
-use slots::copy_in;
+use passes::TABLE;
 
 // Word w of the row whose one inner node is the root.
 fn bare_word(n: usize, w: usize) -> u16
@@ -37,53 +36,31 @@ pub fn bare(n: usize, out: &mut [u16])
     requires { (fewest_samples ≤ n) × (n ≤ most_samples) × (length out.old ≡ row_words n) }
     ensures { out.new ≡ bare_row n }
 {
-    let mut w = 0;
-    while w < out.len() {
-        out[w] = bare_word(n, w);
-        w += 1;
+    for (w, word) in out.iter_mut().enumerate() {
+        *word = bare_word(n, w);
     }
 }
 
-// Copies all words.
-pub fn copy(from: &[u16], to: &mut [u16])
-    requires { length to.old ≡ length from.now }
-    ensures { to.new ≡ from.now }
-{
-    copy_in(to, 0, from);
-}
-
 // Merges what is shown of run i at threshold t into what is accepted.
-fn take_in(
-    n: usize,
-    words: &[u16],
-    k: usize,
-    t: usize,
-    i: usize,
-    out: &mut [u16],
-    spare: &mut [u16],
-)
-    requires { Study words.now n k × (i < k) × (out.old ≡ accepted t n words.now i) × (length spare.old ≡ row_words n) × InRange t }
-    ensures { out.new ≡ accepted t n words.now (i + 1) }
+fn take_in(study: Held, t: usize, i: usize, out: &mut [u16], spare: &mut [u16])
+    requires { (i < study.k) × (out.old ≡ accepted t study.n study.words.now i)
+        × (length spare.old ≡ row_words study.n) × InRange t }
+    ensures { out.new ≡ accepted t study.entry.n study.entry.words.now (i + 1) }
 {
-    let mut held: Table = [0; TABLE];
-    let mut keep: [bool; TABLE] = [false; TABLE];
-    let row = run_row(n, words, i);
-    holders(n, words, k, row, &mut held);
-    marks(n, nodes(row), t, k, &held, &mut keep);
+    let n = study.n;
+    let row = study.run_row(i);
+    let keep = marks(n, nodes(row), t, study.k, &holders(study, row));
     merge(n, out, &[true; TABLE], row, &keep, spare);
-    copy(spare, out);
+    out.copy_from_slice(spare);
 }
 
 // The agreed row at threshold t; `spare` is a buffer to work in.
-pub fn agreed_row(n: usize, words: &[u16], k: usize, t: usize, out: &mut [u16], spare: &mut [u16])
-    requires { Study words.now n k × (0 < k) × (length out.old ≡ row_words n) × (length spare.old ≡ row_words n) × InRange t }
-    ensures { out.new ≡ agreed (majority t) n (runs words.now) }
+pub fn agreed_row(study: Held, t: usize, out: &mut [u16], spare: &mut [u16])
+    requires { (0 < study.k) × (length out.old ≡ row_words study.n) × (length spare.old ≡ row_words study.n) × InRange t }
+    ensures { out.new ≡ agreed (majority t) study.entry.n (runs study.entry.words.now) }
 {
-    bare(n, out);
-    let last = references(t, k);
-    let mut tried = 0;
-    while tried < last {
-        take_in(n, words, k, t, tried, out, spare);
-        tried += 1;
+    bare(study.n, out);
+    for tried in 0..references(t, study.k) {
+        take_in(study, t, tried, out, spare);
     }
 }

@@ -266,8 +266,6 @@ pub turned_run : (n w : ℕ) (q r t : List ℕ) (held agrees : List Bool) (t' : 
     → Flags (λ v. holds n (group_at n q v) r) n (nodes q) held → Flags (λ v. not (conflicts n (group_at n q v) r)) n (nodes q) agrees
     → Turned (turned_in w held agrees t) n m t' keep → Turned (turned_by n w q r t) n (nodes q) t' keep
 turned_run n w q r t held agrees t' keep m e h a i = record {
-  words = i.words;
-  flags = i.flags;
   counts = record { is = λ v l k. i.counts.is v l (omega arith) ∙ same v l k };
   kept = record { is = λ v l k. i.kept.is v l (omega arith) ∙ ap (ltb 0) (same v l k) };
 }

@@ -1,5 +1,5 @@
 -- The counters over rows: the candidates are the inner groups of a standard row, their counters a table by node.
-use Rattle.std.specs.Prelude.{ℕ, ◌+◌, ◌-◌, ◌≤◌, ◌<◌, List, Bool, true, not, cond, ◌≡◌, ltb, length, replicate}
+use Rattle.std.specs.Prelude.{ℕ, ◌+◌, ◌-◌, ◌≤◌, ◌<◌, List, Bool, true, not, cond, ◌≡◌, ltb, replicate}
 use Rattle.trees.specs.Groups.{Group, size}
 use Rattle.trees.specs.Rows.{nodes, group_at, inner, holds}
 use Rattle.trees.specs.Valid.{In, Standard}
@@ -33,8 +33,6 @@ turned_by n w q r t v = turned w (holds n (group_at n q v) r) (not (conflicts n 
 
 -- the table t' has the counters of f at the nodes from n to below m, and the flags say which are not 0
 pub record Turned (f : ℕ → ℕ) (n m : ℕ) (t' : List ℕ) (keep : List Bool) : Type 0 where
-  pub words : length t' ≡ table_words
-  pub flags : length keep ≡ table_words
   pub counts : Tabled f n m t'
   pub kept : Flags (λ v. ltb 0 (f v)) n m keep
 

@@ -6,8 +6,8 @@ ghost use Rattle.std.specs.Prelude.{◌≡◌, ◌+◌, ◌<◌, ◌≤◌, leng
 ghost use Rattle.trees.specs.Rows.{nodes};
 ghost use Rattle.trees.specs.Checks.{row_words};
 ghost use Rattle.trees.specs.Valid.{Standard};
-ghost use Rattle.trees.specs.Tables.{Tabled, table_words, entry, size_at};
-ghost use Rattle.trees.specs.Passes.{Ranked, Starts};
+ghost use Rattle.trees.specs.Tables.{Tabled, table_words, size_at};
+ghost use Rattle.trees.specs.Passes.{Ranked};
 ghost use Rattle.trees.specs.Mates.{Tables};
 ghost use Rattle.trees.specs.Merging.{Mergeable};
 ghost use Rattle.merge.specs.Carrying.{CarriedOver};
@@ -15,8 +15,8 @@ ghost use Rattle.counters.specs.Rounds.{turned, turned_in, turned_by, Turned, we
 
 use conflict::{agreements, sides};
 use judge::nodes;
-use mates::tables;
-use merge::merge_carried;
+use mates::Chart;
+use merge::{Side, merge_carried};
 use passes::{TABLE, Table};
 
 // What a run counts for.
@@ -28,15 +28,12 @@ fn turned(held: bool, agrees: bool, c: u16) -> u16
     ensures { result ≡ turned weight held agrees c }
 {
     if held {
-        return c + WEIGHT;
+        c + WEIGHT
+    } else if agrees {
+        c
+    } else {
+        c.saturating_sub(WEIGHT)
     }
-    if agrees {
-        return c;
-    }
-    if c < WEIGHT {
-        return 0;
-    }
-    c - WEIGHT
 }
 
 // Turns the counters of the nodes from n to below m, and tells which are not 0.
@@ -48,17 +45,14 @@ fn sweep(
     counter: &mut Table,
     keep: &mut [bool; TABLE],
 )
-    requires { (n ≤ m) × (m ≤ table_words) × (length counter.old ≡ table_words) × (length keep.old ≡ table_words)
-        × Room n m weight counter.old }
+    requires { (n ≤ m) × (m ≤ table_words) × Room n m weight counter.old }
     ensures { Turned (turned_in weight held.now agrees.now counter.old) n m
         counter.new keep.new }
 {
-    let mut v = n;
-    while v < m {
+    for v in n..m {
         let c = turned(held[v], agrees[v], counter[v]);
         counter[v] = c;
         keep[v] = 0 < c;
-        v += 1;
     }
 }
 
@@ -66,32 +60,22 @@ fn sweep(
 fn count_run(
     n: usize,
     candidates: &[u16],
-    size: &Table,
-    start: &Table,
+    chart: &Chart,
     row: &[u16],
     sizes: &Table,
     counter: &mut Table,
     keep: &mut [bool; TABLE],
 )
-    requires { Standard n candidates.now × Tabled (size_at n candidates.now) 0 (nodes candidates.now) size.now
-        × Starts n candidates.now (entry start.now) × Standard n row.now
-        × Tabled (size_at n row.now) 0 (nodes row.now) sizes.now × (length counter.old ≡ table_words)
-        × (length keep.old ≡ table_words) × Room n (nodes candidates.now) weight counter.old }
+    requires { Standard n candidates.now
+        × Tables n candidates.now chart.now.ranks.size chart.now.ranks.low chart.now.start
+        × Standard n row.now × Tabled (size_at n row.now) 0 (nodes row.now) sizes.now
+        × Room n (nodes candidates.now) weight counter.old }
     ensures { Turned (turned_by n weight candidates.now row.now counter.old) n
         (nodes candidates.now) counter.new keep.new }
 {
     let mut held: [bool; TABLE] = [false; TABLE];
     let mut agrees: [bool; TABLE] = [false; TABLE];
-    sides(
-        n,
-        candidates,
-        size,
-        start,
-        row,
-        sizes,
-        &mut held,
-        &mut agrees,
-    );
+    sides(n, candidates, chart, row, sizes, &mut held, &mut agrees);
     sweep(n, nodes(candidates), &held, &agrees, counter, keep);
 }
 
@@ -99,86 +83,20 @@ fn count_run(
 // handed on, and what is new has the weight of the run.
 fn renew(
     n: usize,
-    candidates: &[u16],
-    size: &Table,
-    low: &Table,
-    keep: &[bool; TABLE],
-    row: &[u16],
-    sizes: &Table,
-    lows: &Table,
-    enter: &[bool; TABLE],
+    candidates: &Side,
+    run: &Side,
     counter: &Table,
     fresh: &mut Table,
     out: &mut [u16],
 )
-    requires { Mergeable n candidates.now keep.now row.now enter.now
-        × Ranked n candidates.now size.now low.now × Ranked n row.now sizes.now lows.now
-        × (length fresh.old ≡ table_words) × (length out.old ≡ row_words n) }
-    ensures { CarriedOver n candidates.now keep.now row.now enter.now
+    requires { Mergeable n candidates.now.row.now candidates.now.keep.now run.now.row.now run.now.keep.now
+        × Ranked n candidates.now.row.now candidates.now.ranks.now.size candidates.now.ranks.now.low
+        × Ranked n run.now.row.now run.now.ranks.now.size run.now.ranks.now.low × (length out.old ≡ row_words n) }
+    ensures { CarriedOver n candidates.now.row.now candidates.now.keep.now run.now.row.now run.now.keep.now
         counter.now weights fresh.new out.new }
 {
     *fresh = [WEIGHT; TABLE];
-    merge_carried(
-        n, candidates, size, low, keep, row, sizes, lows, enter, counter, fresh, out,
-    );
-}
-
-// The round, by the tables of the candidates and of the run's row.
-fn turn(
-    n: usize,
-    row: &[u16],
-    sizes: &Table,
-    lows: &Table,
-    starts: &Table,
-    candidates: &[u16],
-    size: &Table,
-    low: &Table,
-    start: &Table,
-    counter: &mut Table,
-    fresh: &mut Table,
-    out: &mut [u16],
-)
-    requires { Standard n row.now × Tables n row.now sizes.now lows.now starts.now
-        × Ready n candidates.now counter.old × Tables n candidates.now size.now low.now start.now
-        × Room n (nodes candidates.now) weight counter.old
-        × (length counter.old ≡ table_words) × (length fresh.old ≡ table_words) × (length out.old ≡ row_words n) }
-    ensures { Rounded n weight row.now candidates.now counter.old
-        out.new fresh.new × (length fresh.new ≡ table_words) }
-{
-    let mut keep: [bool; TABLE] = [false; TABLE];
-    let mut enter: [bool; TABLE] = [false; TABLE];
-    count_run(n, candidates, size, start, row, sizes, counter, &mut keep);
-    agreements(n, row, sizes, starts, candidates, &mut enter);
-    renew(
-        n, candidates, size, low, &keep, row, sizes, lows, &enter, counter, fresh, out,
-    );
-}
-
-// The round, by the tables of the candidates.
-fn round_ranked(
-    n: usize,
-    row: &[u16],
-    candidates: &[u16],
-    size: &Table,
-    low: &Table,
-    start: &Table,
-    counter: &mut Table,
-    fresh: &mut Table,
-    out: &mut [u16],
-)
-    requires { Standard n row.now × Ready n candidates.now counter.old
-        × Tables n candidates.now size.now low.now start.now × Room n (nodes candidates.now) weight counter.old
-        × (length counter.old ≡ table_words) × (length fresh.old ≡ table_words) × (length out.old ≡ row_words n) }
-    ensures { Rounded n weight row.now candidates.now counter.old
-        out.new fresh.new × (length fresh.new ≡ table_words) }
-{
-    let mut sizes: Table = [0; TABLE];
-    let mut lows: Table = [0; TABLE];
-    let mut starts: Table = [0; TABLE];
-    tables(n, row, &mut sizes, &mut lows, &mut starts);
-    turn(
-        n, row, &sizes, &lows, &starts, candidates, size, low, start, counter, fresh, out,
-    );
+    merge_carried(n, candidates, run, counter, fresh, out);
 }
 
 // One round with the run of this row: the next candidates in `out`, and their counters in `fresh`.
@@ -191,14 +109,33 @@ pub fn round(
     out: &mut [u16],
 )
     requires { Standard n row.now × Ready n candidates.now counter.old
-        × Room n (nodes candidates.now) weight counter.old
-        × (length counter.old ≡ table_words) × (length fresh.old ≡ table_words) × (length out.old ≡ row_words n) }
+        × Room n (nodes candidates.now) weight counter.old × (length out.old ≡ row_words n) }
     ensures { Rounded n weight row.now candidates.now counter.old
-        out.new fresh.new × (length fresh.new ≡ table_words) }
+        out.new fresh.new }
 {
-    let mut size: Table = [0; TABLE];
-    let mut low: Table = [0; TABLE];
-    let mut start: Table = [0; TABLE];
-    tables(n, candidates, &mut size, &mut low, &mut start);
-    round_ranked(n, row, candidates, &size, &low, &start, counter, fresh, out);
+    let chart = Chart::of(n, candidates);
+    let run = Chart::of(n, row);
+    let mut keep: [bool; TABLE] = [false; TABLE];
+    let mut enter: [bool; TABLE] = [false; TABLE];
+    count_run(
+        n,
+        candidates,
+        &chart,
+        row,
+        &run.ranks.size,
+        counter,
+        &mut keep,
+    );
+    agreements(n, row, &run, candidates, &mut enter);
+    let stay = Side {
+        row: candidates,
+        ranks: &chart.ranks,
+        keep: &keep,
+    };
+    let come = Side {
+        row,
+        ranks: &run.ranks,
+        keep: &enter,
+    };
+    renew(n, &stay, &come, counter, fresh, out);
 }

@@ -1,14 +1,16 @@
 -- The bytes of a file and its slots, without loss; what a good file is; a text at the front, byte by byte. Assumes nothing.
-use Rattle.std.specs.Prelude.{ℕ, suc, ◌+◌, ◌*◌, ◌^◌, ◌≤◌, ◌<◌, ◌≡◌, refl, ◌↔◌, List, [], Bool, true, false, ◌||◌, not, cond, eqb, length, get_or, drop}
-use Rattle.std.proofs.Common.{◌∙◌, mul-le-mul, mul-le-mul_right, le-mul_of_pos_right, add-mul, zero-add, arith, drop-cons, eq-eqb, ne_eqb, eqb-true}
+use Rattle.std.specs.Prelude.{ℕ, ◌+◌, ◌*◌, ◌^◌, ◌≤◌, ◌<◌, ◌≡◌, refl, ◌↔◌, List, [], ◌∷◌, Bool, true, false, ◌&&◌, ◌||◌, not, cond, eqb, length, get_or, None}
+use Rattle.std.proofs.Common.{sym, ap, ◌∙◌, mul-le-mul, mul-le-mul_right, le-mul_of_pos_right, add-mul, zero-add, arith, eq-eqb, eqb-true}
+use Rattle.std.specs.List.{starts_with}
 use Rattle.std.proofs.lemmas.Bool.{not-false}
+use Rattle.std.proofs.lemmas.Option.{same_Some}
 use Rattle.trees.specs.Checks.{row_words, outside}
 use Rattle.trees.proofs.BoolLaws.{or_none}
 use Rattle.trees.proofs.CheckLaws.{outside_not, not_outside}
 use Rattle.trees.proofs.ListLaws.{length_tabulate, get_d_tabulate}
 use Rattle.ascii.specs.Ascii.{ascii}
-use Rattle.file.specs.Files.{word_at, file_samples, file_runs, file_version, head_bytes, most_bytes, file_bytes, begins, bad_file, file_of, slot_row}
-use Rattle.file.specs.declared.File.TheVariants.{Bad, Good}
+use Rattle.file.specs.declared.Sizes.{Sizes}
+use Rattle.file.specs.Files.{word_at, file_samples, file_runs, file_version, head_bytes, most_bytes, file_bytes, begins, bad_file, good, file_of, slot_row}
 
 -- ---- bytes
 
@@ -55,20 +57,12 @@ slot_word bytes n j i h = get_d_tabulate (row_words n) (λ t. word_at bytes (fil
 
 -- ---- a text at the front
 
--- what is left of the text decides
-pub begins_pass : (text bytes : List ℕ) (i : ℕ) → i < length text → i < length bytes → get_or text i 0 ≡ get_or bytes i 0
-    → begins (drop i text) (drop i bytes) ≡ begins (drop (suc i) text) (drop (suc i) bytes)
+-- what `starts_with` answers
+pub begins_is : (text bytes : List ℕ) → starts_with eqb bytes text ≡ begins text bytes
 unfolding begins
-begins_pass text bytes i h k e = rw (drop-cons text i 0 h, drop-cons bytes i 0 k, eq-eqb _ _ e)
-
-pub begins_stop : (text bytes : List ℕ) (i : ℕ) → i < length text → i < length bytes → (get_or text i 0 ≡ get_or bytes i 0 → ⊥)
-    → begins (drop i text) (drop i bytes) ≡ false
-unfolding begins
-begins_stop text bytes i h k e = rw (drop-cons text i 0 h, drop-cons bytes i 0 k, ne_eqb _ _ e)
-
-pub begins_none : (bytes : List ℕ) → begins [] bytes ≡ true
-unfolding begins
-begins_none bytes = refl
+begins_is [] bytes = refl
+begins_is (x ∷ text) [] = refl
+begins_is (x ∷ text) (y ∷ bytes) = ap (λ b. eqb x y && b) (begins_is text bytes)
 
 -- ---- bad files
 
@@ -126,26 +120,28 @@ sound_not_bad bytes s =
 pub sound_exactly : (bytes : List ℕ) → (bad_file bytes ≡ false) ↔ Sound bytes
 sound_exactly bytes = (not_bad bytes, sound_not_bad bytes)
 
-pub good_file : (bytes : List ℕ) (n k : ℕ) → file_of bytes ≡ Good n k → (n ≡ file_samples bytes) × (k ≡ file_runs bytes) × Sound bytes
+pub good_file : (bytes : List ℕ) (n k : ℕ) → file_of bytes ≡ good n k → (n ≡ file_samples bytes) × (k ≡ file_runs bytes) × Sound bytes
 unfolding file_of
 good_file bytes n k e = go (bad_file bytes) refl e
   where
-    go : (b : Bool) → bad_file bytes ≡ b → cond b Bad (Good (file_samples bytes) (file_runs bytes)) ≡ Good n k
+    go : (b : Bool) → bad_file bytes ≡ b → cond b None (good (file_samples bytes) (file_runs bytes)) ≡ good n k
         → (n ≡ file_samples bytes) × (k ≡ file_runs bytes) × Sound bytes
     go true p q = let z : ◌≡◌ {A = ℕ} 0 1 = cc in absurd (omega arith)
-    go false p q = ((cc), (cc), not_bad bytes p)
+    go false p q =
+        let e = same_Some _ _ q in
+        (sym (ap (λ (s : Sizes). s.samples) e), sym (ap (λ (s : Sizes). s.runs) e), not_bad bytes p)
 
 -- a sound file is good, with the n and k that stand in it
-pub sound_good : (bytes : List ℕ) → Sound bytes → file_of bytes ≡ Good (file_samples bytes) (file_runs bytes)
+pub sound_good : (bytes : List ℕ) → Sound bytes → file_of bytes ≡ good (file_samples bytes) (file_runs bytes)
 unfolding file_of
 sound_good bytes s = rw (sound_not_bad bytes s) refl
 
 -- any other file is bad
-pub bad-file : (bytes : List ℕ) → bad_file bytes ≡ true → file_of bytes ≡ Bad
+pub bad-file : (bytes : List ℕ) → bad_file bytes ≡ true → file_of bytes ≡ None
 unfolding file_of
 bad-file bytes e = rw e refl
 
 -- a good file is as long as its n and k say
-pub good_length : (bytes : List ℕ) (n k : ℕ) → file_of bytes ≡ Good n k → length bytes ≡ file_bytes n k
+pub good_length : (bytes : List ℕ) (n k : ℕ) → file_of bytes ≡ good n k → length bytes ≡ file_bytes n k
 unfolding file_bytes
 good_length bytes n k e = let g = good_file bytes n k e in g.2.long ∙ rw (← g.0, ← g.1) refl

@@ -4,9 +4,8 @@ use Rattle.std.proofs.Common.{arith}
 use Rattle.trees.specs.Lists.{tabulate, zeros}
 use Rattle.trees.specs.Case.{row1, row2, row3}
 use Rattle.trees.proofs.ListLaws.{length_zeros}
-use Rattle.file.specs.declared.File.TheVariants.{Good}
 use Rattle.ascii.specs.Ascii.{ascii}
-use Rattle.file.specs.Files.{word_at, file_bytes, begins, bad_file, file_of, slot_identifier, slot_row}
+use Rattle.file.specs.Files.{word_at, file_bytes, begins, bad_file, good, file_of, slot_identifier, slot_row}
 use Rattle.file.proofs.FileLaws.{sound_not_bad}
 
 -- words as bytes, the low byte in front
@@ -18,7 +17,7 @@ bytes_of (w ∷ ws) = w % 256 ∷ w / 256 ∷ bytes_of ws
 abbrev pub input : List ℕ
 input = ascii "ARB" ++ bytes_of ((1 ∷ 5 ∷ 3 ∷ []) ++ (1 ∷ row1) ++ (2 ∷ row2) ++ (3 ∷ row3))
 
-pub specimen_file : file_of input ≡ Good 5 3
+pub specimen_file : file_of input ≡ good 5 3
 unfolding file_of bad_file begins word_at file_bytes bytes_of
 specimen_file = refl
 

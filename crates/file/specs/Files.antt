@@ -1,10 +1,9 @@
 -- The file that the listing program reads (RULES 9.1): when it is bad (RULES 9.3), its header and its slots.
-use Rattle.std.specs.Prelude.{ℕ, suc, ◌+◌, ◌*◌, List, [], ◌∷◌, Bool, true, false, ◌&&◌, ◌||◌, not, cond, eqb, length, get_or}
+use Rattle.std.specs.Prelude.{ℕ, suc, ◌+◌, ◌*◌, List, [], ◌∷◌, Bool, true, false, ◌&&◌, ◌||◌, not, cond, eqb, length, get_or, Option, None, Some}
 use Rattle.trees.specs.Lists.{tabulate}
 use Rattle.trees.specs.Checks.{row_words, outside}
 use Rattle.ascii.specs.Ascii.{ascii}
-use Rattle.file.specs.declared.File.{File}
-use Rattle.file.specs.declared.File.TheVariants.{Bad, Good}
+use Rattle.file.specs.declared.Sizes.{Sizes}
 
 -- the number of 16 bits at a place, the low byte in front (RULES 9.1)
 unfoldable pub word_at : List ℕ → ℕ → ℕ
@@ -43,9 +42,13 @@ bad_file bytes =
     outside head_bytes most_bytes (length bytes) || not (begins (ascii "ARB") bytes) || not (eqb (file_version bytes) 1)
     || not (eqb (length bytes) (file_bytes (file_samples bytes) (file_runs bytes)))
 
+-- a file that is good, with n samples and k runs
+abbrev pub good : ℕ → ℕ → Option Sizes
+good n k = Some (record { samples = n; runs = k })
+
 -- what a file is: bad (RULES 9.3), or good with its n and k (RULES 9.1)
-unfoldable pub file_of : List ℕ → File
-file_of bytes = cond (bad_file bytes) Bad (Good (file_samples bytes) (file_runs bytes))
+unfoldable pub file_of : List ℕ → Option Sizes
+file_of bytes = cond (bad_file bytes) None (good (file_samples bytes) (file_runs bytes))
 
 -- the identifier and the row of slot j (RULES 9.1)
 unfoldable pub slot_identifier : List ℕ → ℕ → ℕ → ℕ

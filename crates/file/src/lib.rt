@@ -3,9 +3,7 @@
 
 ghost use Rattle.std.specs.Prelude.{◌≡◌, ◌+◌, ◌*◌, ◌^◌, ◌<◌, ◌≤◌, eqb, length};
 ghost use Rattle.trees.specs.Checks.{row_words};
-ghost use Rattle.file.specs.Files.{word_at, file_samples, file_runs, head_bytes, file_bytes, begins, bad_file, file_of, slot_identifier, slot_row};
-
-use judge::wide;
+ghost use Rattle.file.specs.Files.{word_at, file_samples, file_runs, head_bytes, file_bytes, bad_file, file_of, slot_identifier, slot_row};
 
 // The version that is taken, where version, n and k stand after the mark, and where they end (RULES 9.1).
 pub const VERSION: u16 = 1;
@@ -24,21 +22,11 @@ const WORD_BYTES: usize = 2;
 // The bytes that a file has at most (RULES 1.5).
 pub const MOST_BYTES: usize = 65529;
 
-// A file is refused with 15, or has n samples and k runs.
-#[derive(Clone, Copy)]
-pub enum File {
-    Bad,
-    Good(usize, usize),
-}
-
-// How many values a byte has: a word is its low byte, and its high byte times this.
-const HIGH: u16 = 256;
-
-// A byte as a word.
-fn wide_byte(b: u8) -> u16
-    ensures { (result ≡ b) × (result < 256) }
-{
-    b as u16
+// The n and the k of a file.
+#[derive(Clone, Copy, Debug, PartialEq, Eq)]
+pub struct Sizes {
+    pub samples: usize,
+    pub runs: usize,
 }
 
 // The number of 16 bits at a place, the low byte in front (RULES 9.1).
@@ -46,24 +34,7 @@ fn word_at(bytes: &[u8], i: usize) -> u16
     requires { i + 1 < length bytes.now }
     ensures { result ≡ word_at bytes.now i }
 {
-    let low = wide_byte(bytes[i]);
-    let high = wide_byte(bytes[i + 1]);
-    low + HIGH * high
-}
-
-// Whether a text stands at the front.
-fn begins(text: &[u8], bytes: &[u8]) -> bool
-    requires { length text.now ≤ length bytes.now }
-    ensures { result ≡ begins text.now bytes.now }
-{
-    let mut i: usize = 0;
-    while i < text.len() {
-        if text[i] != bytes[i] {
-            return false;
-        }
-        i += 1;
-    }
-    true
+    u16::from_le_bytes([bytes[i], bytes[i + 1]])
 }
 
 // The bytes of a file with k slots (RULES 9.3), and the place of slot k in one with more.
@@ -79,8 +50,8 @@ fn fitting(bytes: &[u8]) -> bool
     requires { head_bytes ≤ length bytes.now }
     ensures { result ≡ eqb (length bytes.now) (file_bytes (file_samples bytes.now) (file_runs bytes.now)) }
 {
-    let n = wide(word_at(bytes, SAMPLES_AT));
-    let k = wide(word_at(bytes, RUNS_AT));
+    let n = usize::from(word_at(bytes, SAMPLES_AT));
+    let k = usize::from(word_at(bytes, RUNS_AT));
     bytes.len() == file_bytes(n, k)
 }
 
@@ -92,20 +63,20 @@ fn is_bad(bytes: &[u8]) -> bool
     if (len < HEAD_BYTES) | (MOST_BYTES < len) {
         return true;
     }
-    !begins(b"ARB", bytes) | (word_at(bytes, VERSION_AT) != VERSION) | !fitting(bytes)
+    !bytes.starts_with(b"ARB") | (word_at(bytes, VERSION_AT) != VERSION) | !fitting(bytes)
 }
 
-// What a file is: bad, or good with its n and k.
-pub fn file_of(bytes: &[u8]) -> File
+// The n and k of a file, or none if it is refused with 15.
+pub fn file_of(bytes: &[u8]) -> Option<Sizes>
     ensures { result ≡ file_of bytes.now }
 {
     if is_bad(bytes) {
-        return File::Bad;
+        return None;
     }
-    File::Good(
-        wide(word_at(bytes, SAMPLES_AT)),
-        wide(word_at(bytes, RUNS_AT)),
-    )
+    Some(Sizes {
+        samples: usize::from(word_at(bytes, SAMPLES_AT)),
+        runs: usize::from(word_at(bytes, RUNS_AT)),
+    })
 }
 
 // The identifier of slot j (RULES 9.1).
@@ -123,9 +94,7 @@ pub fn row_into(bytes: &[u8], n: usize, j: usize, row: &mut [u16])
     ensures { row.new ≡ slot_row bytes.now n j }
 {
     let at = file_bytes(n, j) + WORD_BYTES;
-    let mut i: usize = 0;
-    while i < row.len() {
-        row[i] = word_at(bytes, at + WORD_BYTES * i);
-        i += 1;
+    for (i, word) in row.iter_mut().enumerate() {
+        *word = word_at(bytes, at + WORD_BYTES * i);
     }
 }

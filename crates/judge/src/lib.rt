@@ -10,6 +10,10 @@ ghost use Rattle.trees.specs.RowCalls.{check3_both};
 ghost use Rattle.trees.specs.Rows.{Closed};
 ghost use Rattle.judge.specs.Verdicts.{number_of, verdict};
 
+mod rows;
+
+pub use rows::{FallingRow, StandardRow, ValidRow};
+
 // Why a call is refused: each is a line of RULES 7.5, and has that line's number.
 #[derive(Clone, Copy, Debug, PartialEq, Eq)]
 pub enum Reason {

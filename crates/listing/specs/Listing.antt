@@ -1,5 +1,5 @@
 -- What the listing program writes for a file (RULES 9).
-use Rattle.std.specs.Prelude.{ℕ, suc}
+use Rattle.std.specs.Prelude.{ℕ, suc, Option, None, Some}
 use mathlib.Core.List.{List, [], ◌∷◌, flatten}
 use Rattle.trees.specs.Lists.{tabulate, zeros}
 use Rattle.trees.specs.Checks.{Verdict, accepted, refused, counted, wrote, row_words}
@@ -7,8 +7,7 @@ use Rattle.runs.specs.Calls.{opened}
 use Rattle.runs.specs.Histories.{Call, add, answers, after}
 use Rattle.runs.specs.Reports.{reported}
 use Rattle.file.specs.Files.{file_of, slot_identifier, slot_row}
-use Rattle.file.specs.declared.File.{File}
-use Rattle.file.specs.declared.File.TheVariants.{Bad, Good}
+use Rattle.file.specs.declared.Sizes.{Sizes}
 use Rattle.text.specs.Lines.{refusal_line, tree_lines}
 
 -- how many words the study has (RULES 9.2)
@@ -53,9 +52,9 @@ listed_file bytes n k =
     unless o.verdict 0 (adds_and_reports n k o.words (tabulate k (slot_call bytes n) 0) 0)
 
 -- what any file comes to: a bad one is refused with 15 before all else (RULES 9.3)
-abbrev pub listed_of : List ℕ → File → Listed
-listed_of bytes Bad = refusal 15 0 0
-listed_of bytes (Good n k) = listed_file bytes n k
+abbrev pub listed_of : List ℕ → Option Sizes → Listed
+listed_of bytes None = refusal 15 0 0
+listed_of bytes (Some s) = listed_file bytes s.samples s.runs
 
 unfoldable pub listed : List ℕ → Listed
 listed bytes = listed_of bytes (file_of bytes)

@@ -5,47 +5,25 @@
 mod lines;
 mod told;
 
-ghost use Rattle.std.specs.Prelude.{◌≡◌, ◌<◌, ◌≤◌, length};
+ghost use Rattle.std.specs.Prelude.{◌<◌, ◌≤◌, length};
 ghost use Rattle.std.specs.Io.{ReadsAtMost};
 ghost use Rattle.text.specs.Room.{line_bytes};
-ghost use Rattle.listing.specs.Listing.{study_words, lines_of};
+ghost use Rattle.listing.specs.Listing.{lines_of};
 ghost use Rattle.listing.specs.Told.{shows, Printable};
 
+use file::Sizes;
 use std::io;
 use std::io::{Read, Write};
-use told::{STUDY_WORDS, Told};
+use text::LINE_BYTES;
+use told::{ROW_ROOM, Refused, STUDY_WORDS};
 
 // Bytes of the file's buffer: more than a file can have (RULES 1.5), so that a file that is too long is noticed.
 const FILE_ROOM: usize = 65536;
 
-// Bytes of the buffer of a line.
-const LINE_ROOM: usize = 4096;
-
 fn main(rt: HostRuntime) -> io::Result<()> {
-    let mut bytes = file_room();
+    let mut bytes = [0; FILE_ROOM];
     let got = read_full(&mut rt.stdin(), &mut bytes)?;
     list(&bytes[..got], &mut rt.stdout())
-}
-
-// Bytes for the file.
-fn file_room() -> [u8; FILE_ROOM]
-    ensures { 65536 ≡ length result }
-{
-    [0; FILE_ROOM]
-}
-
-// Bytes for a line.
-fn line_room() -> [u8; LINE_ROOM]
-    ensures { 4096 ≡ length result }
-{
-    [0; LINE_ROOM]
-}
-
-// Words for the study (RULES 9.2).
-fn study_room() -> [u16; STUDY_WORDS]
-    ensures { study_words ≡ length result }
-{
-    [0; STUDY_WORDS]
 }
 
 // Reads until the bytes are full or the input ends, and says how many bytes it put at their front.
@@ -65,17 +43,17 @@ fn read_full<R: Read>(input: &mut R, bytes: &mut [u8]) -> io::Result<usize>
 
 // Lists a file.
 fn list<W: Write>(bytes: &[u8], output: &mut W) -> io::Result<()> {
-    let mut words = study_room();
-    let mut agreed = told::row_room();
-    let mut support = told::row_room();
-    let mut out = line_room();
+    let mut words = [0; STUDY_WORDS];
+    let mut agreed = [0; ROW_ROOM];
+    let mut support = [0; ROW_ROOM];
+    let mut out = [0; LINE_BYTES];
     let told = told::tell(bytes, &mut words, &mut agreed, &mut support);
     print(told, &agreed, &support, output, &mut out)
 }
 
 // Writes line by line.
 fn print<W: Write>(
-    told: Told,
+    told: Result<Sizes, Refused>,
     agreed: &[u16],
     support: &[u16],
     output: &mut W,
@@ -92,7 +70,7 @@ fn print<W: Write>(
 
 // Writes line i.
 fn print_line<W: Write>(
-    told: Told,
+    told: Result<Sizes, Refused>,
     agreed: &[u16],
     support: &[u16],
     i: usize,

@@ -4,13 +4,11 @@
 ghost use Rattle.std.specs.Prelude.{◌≡◌, ◌+◌, ◌-◌, ◌<◌, ◌≤◌};
 ghost use Rattle.trees.specs.Rows.{nodes};
 ghost use Rattle.trees.specs.Checks.{most_samples};
-ghost use Rattle.trees.specs.Valid.{Standard};
-ghost use Rattle.trees.specs.Falls.{Falls};
 ghost use Rattle.trees.specs.Tables.{Tabled, table_words, entry, Keys, Most, least_at, rank_in};
 ghost use Rattle.trees.specs.Passes.{Ranked};
 ghost use Rattle.trees.specs.Mates.{mate_of, candidate, candidate_of, fitting, confirmed, from_end, Tables, Spread};
 
-use judge::nodes;
+use judge::{FallingRow, StandardRow, nodes};
 use passes::{Ranks, TABLE, Table, least, starts};
 
 // 0 is a sample, and so no inner node.
@@ -18,23 +16,35 @@ pub const NO_MATE: u16 = 0;
 
 // What is made once of a reference row for many calls of `mates`: ranks, and the starts of intervals.
 #[derive(Clone, Copy)]
-pub struct Chart {
+pub struct Places {
     pub ranks: Ranks,
     pub start: Table,
 }
 
-impl Chart {
-    // The chart of a reference row.
-    pub fn of(n: usize, reference: &[u16]) -> Chart
-        requires { Standard n reference.now }
-        ensures { Tables n reference.now result.ranks.size result.ranks.low result.start }
+impl Places {
+    // Room for the places of a row.
+    pub const EMPTY: Places = Places {
+        ranks: Ranks::EMPTY,
+        start: [0; TABLE],
+    };
+
+    // Those of a reference row.
+    pub fn fill(&mut self, reference: StandardRow)
+        ensures { Tables reference.entry.n reference.entry.row.now self.new.ranks.size self.new.ranks.low self.new.start }
     {
+        let row = reference.falling();
         let mut off: Table = [0; TABLE];
-        let mut start: Table = [0; TABLE];
-        let ranks = Ranks::with_offsets(n, reference, &mut off);
-        starts(n, reference, &off, &mut start);
-        Chart { ranks, start }
+        self.ranks.fill_with_offsets(row, &mut off);
+        starts(row, &off, &mut self.start);
     }
+}
+
+// A reference row and its places.
+#[derive(Clone, Copy)]
+pub struct Chart<'a> {
+    pub reference: StandardRow<'a>,
+    pub places: &'a Places,
+    ghost tables: { Tables reference.n reference.row.now places.now.ranks.size places.now.ranks.low places.now.start },
 }
 
 // The first and the last place of each node's group, by the places of a reference row; the last is counted from the end.
@@ -44,101 +54,108 @@ pub struct Ends {
     pub last: Table,
 }
 
+impl Ends {
+    // Room for the ends of a row's groups.
+    pub const EMPTY: Ends = Ends {
+        first: [0; TABLE],
+        last: [0; TABLE],
+    };
+
+    // Those of a row's groups.
+    pub fn fill(&mut self, row: FallingRow, start: &Table)
+        requires { Keys row.n start.now }
+        ensures { Tabled (least_at row.entry.n row.entry.row.now (entry start.now)) 0 (nodes row.entry.row.now) self.new.first
+            × Tabled (least_at row.entry.n row.entry.row.now (from_end row.entry.n (entry start.now))) 0 (nodes row.entry.row.now) self.new.last }
+    {
+        let mut backward: Table = [0; TABLE];
+        all_from_end(row.n, start, &mut backward);
+        least(row, start, &mut self.first);
+        least(row, &backward, &mut self.last);
+    }
+}
+
 // The first node from b on whose rank is k or more, or else m.
 fn advance(n: usize, m: usize, ranks: &Ranks, b: usize, k: usize) -> usize
     requires { (n ≤ most_samples) × (b ≤ m) × (m ≤ table_words) × Most n m ranks.now.size }
     ensures { result ≡ candidate (rank_in n ranks.now.size ranks.now.low) b m k }
 {
-    let mut x = b;
-    while x < m {
-        if k <= ranks.rank(n, x) {
-            return x;
-        }
-        x += 1;
-    }
-    m
+    (b..m).find(|&x| k <= ranks.rank(n, x)).unwrap_or(m)
 }
 
-// For each inner node of a reference row its candidate in another row, by ranks that rise in both: one walk in lockstep.
-fn candidates(
-    n: usize,
-    reference: &[u16],
-    ranks: &Ranks,
-    row: &[u16],
-    other: &Ranks,
-    mate: &mut Table,
-)
-    requires { Standard n reference.now × Ranked n reference.now ranks.now.size ranks.now.low × Standard n row.now
-        × Ranked n row.now other.now.size other.now.low }
-    ensures { Tabled (candidate_of n reference.now row.now) n (nodes reference.now) mate.new }
+// For each inner node of a chart's row its candidate in another row, by ranks that rise in both: one walk in lockstep.
+#[tactic(auto, using(passes::proofs::StandardRows::standard_rows))]
+fn candidates(chart: &Chart, row: StandardRow, other: &Ranks, mate: &mut Table)
+    requires { (row.n ≡ chart.now.reference.n) × Ranked row.n row.row.now other.now.size other.now.low }
+    ensures { Tabled (candidate_of chart.now.reference.n chart.now.reference.row.now row.entry.row.now) chart.now.reference.n
+        (nodes chart.now.reference.row.now) mate.new }
 {
-    let m = nodes(reference);
-    let others = nodes(row);
-    let mut a = n;
+    let n = chart.reference.n;
+    let m = nodes(chart.reference.row);
+    let others = nodes(row.row);
     let mut b = n;
-    while a < m {
-        let k = ranks.rank(n, a);
+    for a in n..m {
+        let k = chart.places.ranks.rank(n, a);
         b = advance(n, others, other, b, k);
         mate[a] = b as u16;
-        a += 1;
     }
 }
 
-// Whether a node has the group of another: its size, and its first and last place in the other's interval; the last is counted from the end.
-fn fitting(n: usize, size: u16, start: u16, other: u16, first: u16, last: u16) -> bool
-    requires { n ≤ most_samples }
-    ensures { result ≡ fitting n size start other first last }
-{
-    (size == other)
-        & ((start <= first) & (n <= usize::from(start) + usize::from(size) + usize::from(last)))
+// A row beside a chart: how many nodes it has, their ranks, and the ends of their groups by the chart's places.
+#[derive(Clone, Copy)]
+struct Beside<'a> {
+    chart: &'a Chart<'a>,
+    row: StandardRow<'a>,
+    m: usize,
+    ranks: &'a Ranks,
+    ends: &'a Ends,
+    ghost same: { row.n ≡ chart.now.reference.n },
+    ghost counted: { m ≡ nodes row.row.now },
+    ghost spread: { Spread chart.now.reference.n chart.now.reference.row.now row.row.now chart.now.places.now.ranks.size chart.now.places.now.start ranks.now.size ends.now.first
+        ends.now.last },
 }
 
-// The candidate b, where it is a node below m and fits a node of that size and start.
-fn confirm(
-    n: usize,
-    size: u16,
-    start: u16,
-    m: usize,
-    other: &Table,
-    first: &Table,
-    last: &Table,
-    b: u16,
-) -> u16
-    requires { (n ≤ most_samples) × (m ≤ table_words) }
-    ensures { result ≡ confirmed m b (fitting n size start (entry other.now b) (entry first.now b) (entry last.now b)) }
-{
-    let x = usize::from(b);
-    if x < m {
-        if fitting(n, size, start, other[x], first[x], last[x]) {
-            return b;
+impl Beside<'_> {
+    // Whether node b has the group of node a of the chart: its size, and its first and last place in the interval of a.
+    fn fits(&self, a: usize, b: usize) -> bool
+        requires { (a < table_words) × (b < table_words) }
+        ensures { result ≡ fitting self.now.chart.now.reference.n (entry self.now.chart.now.places.now.ranks.size a) (entry self.now.chart.now.places.now.start a)
+            (entry self.now.ranks.now.size b) (entry self.now.ends.now.first b) (entry self.now.ends.now.last b) }
+    {
+        let n = self.chart.reference.n;
+        let size = self.chart.places.ranks.size[a];
+        let start = self.chart.places.start[a];
+        let end = usize::from(start) + usize::from(size);
+        (size == self.ranks.size[b])
+            & ((start <= self.ends.first[b]) & (n <= end + usize::from(self.ends.last[b])))
+    }
+
+    // The candidate b of node a of the chart, where it is a node and fits.
+    #[tactic(auto, using(passes::proofs::StandardRows::standard_rows))]
+    fn confirm(&self, a: usize, b: u16) -> u16
+        requires { a < table_words }
+        ensures { result ≡ confirmed self.now.m b (fitting self.now.chart.now.reference.n (entry self.now.chart.now.places.now.ranks.size a)
+            (entry self.now.chart.now.places.now.start a) (entry self.now.ranks.now.size b) (entry self.now.ends.now.first b) (entry self.now.ends.now.last b)) }
+    {
+        let x = usize::from(b);
+        if x < self.m && self.fits(a, x) {
+            b
+        } else {
+            NO_MATE
         }
     }
-    NO_MATE
 }
 
 // The candidates that fit.
-fn confirmations(
-    n: usize,
-    reference: &[u16],
-    size: &Table,
-    start: &Table,
-    row: &[u16],
-    other: &Table,
-    first: &Table,
-    last: &Table,
-    mate: &mut Table,
-)
-    requires { Standard n reference.now × Standard n row.now
-        × Spread n reference.now row.now size.now start.now other.now first.now last.now
-        × Tabled (candidate_of n reference.now row.now) n (nodes reference.now) mate.old }
-    ensures { Tabled (mate_of n reference.now row.now) n (nodes reference.now) mate.new }
+#[tactic(auto, using(passes::proofs::StandardRows::standard_rows))]
+fn confirmations(beside: &Beside, mate: &mut Table)
+    requires { Tabled (candidate_of beside.now.chart.now.reference.n beside.now.chart.now.reference.row.now beside.now.row.row.now)
+        beside.now.chart.now.reference.n (nodes beside.now.chart.now.reference.row.now) mate.old }
+    ensures { Tabled (mate_of beside.now.chart.now.reference.n beside.now.chart.now.reference.row.now beside.now.row.row.now)
+        beside.now.chart.now.reference.n (nodes beside.now.chart.now.reference.row.now) mate.new }
 {
-    let m = nodes(reference);
-    let others = nodes(row);
-    let mut a = n;
-    while a < m {
-        mate[a] = confirm(n, size[a], start[a], others, other, first, last, mate[a]);
-        a += 1;
+    let reference = beside.chart.reference;
+    for a in reference.n..nodes(reference.row) {
+        mate[a] = beside.confirm(a, mate[a]);
     }
 }
 
@@ -155,50 +172,29 @@ fn all_from_end(n: usize, start: &Table, t: &mut Table)
     requires { (n ≤ most_samples) × Keys n start.now }
     ensures { Tabled (from_end n (entry start.now)) 0 n t.new }
 {
-    let mut s = 0;
-    while s < n {
+    for s in 0..n {
         t[s] = from_end(n, start[s]);
-        s += 1;
     }
 }
 
-// The ends of each node's group, by the places of a reference row.
-pub fn spread(n: usize, row: &[u16], start: &Table) -> Ends
-    requires { Falls n row.now × Keys n start.now }
-    ensures { Tabled (least_at n row.now (entry start.now)) 0 (nodes row.now) result.first
-        × Tabled (least_at n row.now (from_end n (entry start.now))) 0 (nodes row.now) result.last }
+// For each inner node of a chart's row the node of another row that has the same group, or NO_MATE.
+pub fn mates(chart: &Chart, row: StandardRow, mate: &mut Table)
+    requires { row.n ≡ chart.now.reference.n }
+    ensures { Tabled (mate_of chart.now.reference.n chart.now.reference.row.now row.entry.row.now) chart.now.reference.n
+        (nodes chart.now.reference.row.now) mate.new }
 {
-    let mut ends = Ends {
-        first: [0; TABLE],
-        last: [0; TABLE],
-    };
-    let mut backward: Table = [0; TABLE];
-    least(n, row, start, &mut ends.first);
-    all_from_end(n, start, &mut backward);
-    least(n, row, &backward, &mut ends.last);
-    ends
-}
-
-// For each inner node of a reference row, with its chart, the node of another row that has the same group, or NO_MATE.
-pub fn mates(n: usize, reference: &[u16], chart: &Chart, row: &[u16]) -> Table
-    requires { Standard n reference.now × Tables n reference.now chart.now.ranks.size chart.now.ranks.low chart.now.start
-        × Standard n row.now }
-    ensures { Tabled (mate_of n reference.now row.now) n (nodes reference.now) result }
-{
-    let mut mate: Table = [0; TABLE];
-    let other = Ranks::of(n, row);
-    candidates(n, reference, &chart.ranks, row, &other, &mut mate);
-    let ends = spread(n, row, &chart.start);
-    confirmations(
-        n,
-        reference,
-        &chart.ranks.size,
-        &chart.start,
+    let falling = row.falling();
+    let mut ranks = Ranks::EMPTY;
+    let mut ends = Ends::EMPTY;
+    ranks.fill(falling);
+    candidates(chart, row, &ranks, mate);
+    ends.fill(falling, &chart.places.start);
+    let beside = Beside {
+        chart,
         row,
-        &other.size,
-        &ends.first,
-        &ends.last,
-        &mut mate,
-    );
-    mate
+        m: nodes(row.row),
+        ranks: &ranks,
+        ends: &ends,
+    };
+    confirmations(&beside, mate);
 }

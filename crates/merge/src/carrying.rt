@@ -1,23 +1,19 @@
 // Carrying what nodes have in a table over to the numbers that they have got.
-ghost use Rattle.std.specs.Prelude.{◌≡◌, ◌≤◌, length};
+ghost use Rattle.std.specs.Prelude.{◌≤◌};
 ghost use Rattle.trees.specs.Tables.{table_words};
 ghost use Rattle.merge.specs.Carrying.{Apart, Carried};
 
-use judge::wide;
 use passes::{TABLE, Table};
 
 // Puts what each kept node from n to below m has in one table at the node's number in another.
 pub fn carry(n: usize, m: usize, keep: &[bool; TABLE], num: &Table, from: &Table, to: &mut Table)
-    requires { (m ≤ table_words) × (n ≤ m) × (length to.old ≡ table_words) × Apart n m keep.now num.now }
+    requires { (m ≤ table_words) × (n ≤ m) × Apart n m keep.now num.now }
     ensures { Carried n keep.now num.now from.now to.old m
         to.new }
 {
-    let mut v = n;
-    while v < m {
+    for v in n..m {
         if keep[v] {
-            let x = wide(num[v]);
-            to[x] = from[v];
+            to[usize::from(num[v])] = from[v];
         }
-        v += 1;
     }
 }

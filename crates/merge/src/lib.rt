@@ -17,40 +17,64 @@ ghost use Rattle.merge.specs.Settling.{Settled};
 ghost use Rattle.merge.specs.Carrying.{CarriedOver};
 
 use carrying::carry;
-use judge::{MOST_SAMPLES, ROOT_MARK, nodes, parent, wide};
-use passes::{RANK_STEP, TABLE, Table, rank, ranks};
+use judge::{MOST_SAMPLES, ROOT_MARK, nodes, parent};
+use passes::{RANK_STEP, Ranks, TABLE, Table};
 
 // A number greater than every rank.
 const RANK_END: usize = 1048576;
 
-// The first node from v on that is kept, or m.
-fn next_kept(keep: &[bool; TABLE], v: usize, m: usize) -> usize
-    requires { (v ≤ m) × (m ≤ table_words) }
-    ensures { Next keep.now v m result }
-{
-    let mut u = v;
-    while u < m {
-        if keep[u] {
-            return u;
-        }
-        u += 1;
-    }
-    u
+// One side of a merging: a row, its ranks, and which of its groups are kept.
+#[derive(Clone, Copy)]
+pub struct Side<'a> {
+    pub row: &'a [u16],
+    pub ranks: &'a Ranks,
+    pub keep: &'a [bool; TABLE],
 }
 
-// The rank of node v, and after the last node a number greater than every rank.
-fn rank_or_end(n: usize, m: usize, sizes: &Table, lows: &Table, v: usize) -> usize
-    requires { (n ≤ most_samples) × (m ≤ table_words) × (v < m → entry sizes.now v ≤ n) }
-    ensures { result ≡ rank_or_end n m sizes.now lows.now v }
-{
-    if m <= v {
-        return RANK_END;
+impl Side<'_> {
+    // The first node from v on that is kept, or the number of nodes.
+    fn next_kept(&self, v: usize) -> usize
+        requires { (0 < length self.now.row.now) × (nodes self.now.row.now ≤ table_words)
+            × (v ≤ nodes self.now.row.now) }
+        ensures { Next self.now.keep.now v (nodes self.now.row.now) result }
+    {
+        let m = nodes(self.row);
+        for u in v..m {
+            if self.keep[u] {
+                return u;
+            }
+        }
+        m
     }
-    rank(n, sizes, lows, v)
+
+    // The rank of node v, and after the last node a number greater than every rank: a None would come before all.
+    fn rank_or_end(&self, n: usize, v: usize) -> usize
+        requires { (n ≤ most_samples) × (0 < length self.now.row.now) × (nodes self.now.row.now ≤ table_words)
+            × (v < nodes self.now.row.now → entry self.now.ranks.now.size v ≤ n) }
+        ensures { result ≡ rank_or_end n (nodes self.now.row.now) self.now.ranks.now.size self.now.ranks.now.low v }
+    {
+        if nodes(self.row) <= v {
+            return RANK_END;
+        }
+        self.ranks.rank(n, v)
+    }
+
+    // If `taken`, gives node v the number c and answers the next node that is kept; otherwise answers v.
+    fn give(&self, num: &mut Table, v: usize, c: usize, taken: bool) -> usize
+        requires { (0 < length self.now.row.now) × (nodes self.now.row.now ≤ table_words) × (c < table_words)
+            × (taken ≡ true → v < nodes self.now.row.now) }
+        ensures { Given num.old self.now.keep.now v (nodes self.now.row.now) c taken num.new result }
+    {
+        if !taken {
+            return v;
+        }
+        num[v] = c as u16;
+        self.next_kept(v + 1)
+    }
 }
 
 // Whether the first row's node takes the next number, whether the second's does, and the smallest sample of their group.
-#[derive(Clone, Copy)]
+#[derive(Clone, Copy, Debug, PartialEq, Eq)]
 struct Choice {
     first: bool,
     second: bool,
@@ -61,108 +85,53 @@ struct Choice {
 fn choose(p: usize, q: usize) -> Choice
     ensures { Chosen p q result.first result.second result.low }
 {
-    if p <= q {
-        return Choice {
-            first: true,
-            second: q <= p,
-            low: (p % RANK_STEP) as u16,
-        };
-    }
     Choice {
-        first: false,
-        second: true,
-        low: (q % RANK_STEP) as u16,
+        first: p <= q,
+        second: q <= p,
+        low: (p.min(q) % RANK_STEP) as u16,
     }
 }
 
-// The same for node x of one row and node y of another, by the rows' tables.
-fn choose_next(
-    n: usize,
-    ma: usize,
-    sizes_a: &Table,
-    lows_a: &Table,
-    x: usize,
-    mb: usize,
-    sizes_b: &Table,
-    lows_b: &Table,
-    y: usize,
-) -> Choice
-    requires { (n ≤ most_samples) × (ma ≤ table_words) × (mb ≤ table_words)
-        × (x < ma → entry sizes_a.now x ≤ n) × (y < mb → entry sizes_b.now y ≤ n) }
-    ensures { Chosen (rank_or_end n ma sizes_a.now lows_a.now x)
-        (rank_or_end n mb sizes_b.now lows_b.now y) result.first result.second result.low }
+// The same for node x of one side and node y of another.
+fn choose_next(n: usize, a: &Side, x: usize, b: &Side, y: usize) -> Choice
+    requires { (n ≤ most_samples) × (0 < length a.now.row.now) × (0 < length b.now.row.now)
+        × (nodes a.now.row.now ≤ table_words) × (nodes b.now.row.now ≤ table_words)
+        × (x < nodes a.now.row.now → entry a.now.ranks.now.size x ≤ n)
+        × (y < nodes b.now.row.now → entry b.now.ranks.now.size y ≤ n) }
+    ensures { Chosen (rank_or_end n (nodes a.now.row.now) a.now.ranks.now.size a.now.ranks.now.low x)
+        (rank_or_end n (nodes b.now.row.now) b.now.ranks.now.size b.now.ranks.now.low y)
+        result.first result.second result.low }
 {
-    choose(
-        rank_or_end(n, ma, sizes_a, lows_a, x),
-        rank_or_end(n, mb, sizes_b, lows_b, y),
-    )
+    choose(a.rank_or_end(n, x), b.rank_or_end(n, y))
 }
 
-// If `taken`, gives node v the number c and answers the next node that is kept; otherwise answers v.
-fn give(num: &mut Table, keep: &[bool; TABLE], v: usize, m: usize, c: usize, taken: bool) -> usize
-    requires { (length num.old ≡ table_words) × (m ≤ table_words) × (c < table_words) × (taken ≡ true → v < m) }
-    ensures { Given num.old keep.now v m c taken num.new result }
-{
-    if !taken {
-        return v;
-    }
-    num[v] = c as u16;
-    next_kept(keep, v + 1, m)
-}
-
-// Numbers the kept groups of both rows from n in their common order, with each number's smallest sample, and answers the first number that is left.
+// Numbers the kept groups of both sides from n in their common order, with each number's smallest sample, and answers the first number that is left.
 fn lockstep(
     n: usize,
-    a: &[u16],
-    sizes_a: &Table,
-    lows_a: &Table,
-    keep_a: &[bool; TABLE],
-    b: &[u16],
-    sizes_b: &Table,
-    lows_b: &Table,
-    keep_b: &[bool; TABLE],
+    a: &Side,
+    b: &Side,
     num_a: &mut Table,
     num_b: &mut Table,
     mins: &mut Table,
 ) -> usize
-    requires { Mergeable n a.now keep_a.now b.now keep_b.now
-        × Ranked n a.now sizes_a.now lows_a.now × Ranked n b.now sizes_b.now lows_b.now
-        × (num_a.old ≡ blank) × (num_b.old ≡ blank) × (length mins.old ≡ table_words) }
-    ensures { Numbered n a.now keep_a.now b.now keep_b.now
+    requires { Mergeable n a.now.row.now a.now.keep.now b.now.row.now b.now.keep.now
+        × Ranked n a.now.row.now a.now.ranks.now.size a.now.ranks.now.low
+        × Ranked n b.now.row.now b.now.ranks.now.size b.now.ranks.now.low
+        × (num_a.old ≡ blank) × (num_b.old ≡ blank) }
+    ensures { Numbered n a.now.row.now a.now.keep.now b.now.row.now b.now.keep.now
         num_a.new num_b.new mins.new result }
 {
-    let ma = nodes(a);
-    let mb = nodes(b);
-    let mut x = next_kept(keep_a, n, ma);
-    let mut y = next_kept(keep_b, n, mb);
+    let mut x = a.next_kept(n);
+    let mut y = b.next_kept(n);
     let mut c = n;
-    while (x < ma) | (y < mb) {
-        let next = choose_next(n, ma, sizes_a, lows_a, x, mb, sizes_b, lows_b, y);
+    while (x < nodes(a.row)) | (y < nodes(b.row)) {
+        let next = choose_next(n, a, x, b, y);
         mins[c] = next.low;
-        x = give(num_a, keep_a, x, ma, c, next.first);
-        y = give(num_b, keep_b, y, mb, c, next.second);
+        x = a.give(num_a, x, c, next.first);
+        y = b.give(num_b, y, c, next.second);
         c += 1;
     }
     c
-}
-
-// The sizes and the smallest samples of a row's nodes.
-fn keys(n: usize, row: &[u16], sizes: &mut Table, lows: &mut Table)
-    requires { Standard n row.now × (length sizes.old ≡ table_words) × (length lows.old ≡ table_words) }
-    ensures { Ranked n row.now sizes.new lows.new }
-{
-    let mut off: Table = [0; TABLE];
-    ranks(n, row, sizes, &mut off, lows);
-}
-
-// The larger of two.
-fn larger(x: u16, y: u16) -> u16
-    ensures { result ≡ max x y }
-{
-    if x < y {
-        return y;
-    }
-    x
 }
 
 // A number, or where it is 0 another.
@@ -177,94 +146,78 @@ fn own_or(own: u16, other: u16) -> u16
 
 // Each node that is not kept takes its parent's number, so that each has that of the nearest kept node at or above it.
 fn raise(n: usize, row: &[u16], num: &mut Table)
-    requires { Standard n row.now × (length num.old ≡ table_words) }
-    ensures { Raised n row.now num.old num.new × (length num.new ≡ table_words) }
+    requires { Standard n row.now }
+    ensures { Raised n row.now num.old num.new }
 {
-    let m = nodes(row);
-    let mut v = n + 1;
-    while v < m {
+    for v in n + 1..nodes(row) {
         let p = parent(row, v);
         num[v] = own_or(num[v], num[p]);
-        v += 1;
     }
 }
 
-// The first node from v upwards that has a number below i.
-fn climb(n: usize, row: &[u16], up: &Table, i: usize, v: usize) -> usize
-    requires { Standard n row.now × (entry up.now n < i) × (n ≤ v) × (v < nodes row.now) }
-    ensures { result ≡ climbed (nodes row.now) row.now up.now i v }
-{
-    let mut u = v;
-    while i <= wide(up[u]) {
-        u = parent(row, u);
-    }
-    u
+// A row to climb in: the nodes above each, and the number of the nearest kept node at or above it.
+#[derive(Clone, Copy)]
+struct Ladder<'a> {
+    row: &'a [u16],
+    up: &'a Table,
 }
 
-// Moves the place of sample s up to the first node that has a number below i, and answers that number.
-fn lift(
-    n: usize,
-    row: &[u16],
-    up: &Table,
-    places: &mut [u16; MOST_SAMPLES],
-    i: usize,
-    s: usize,
-) -> u16
-    requires { Standard n row.now × (entry up.now n < i) × (length places.old ≡ most_samples) × (s < n)
-        × (n ≤ entry places.old s) × (entry places.old s < nodes row.now) }
-    ensures { Lifted row.now up.now places.old i s places.new result }
-{
-    let v = climb(n, row, up, i, wide(places[s]));
-    places[s] = v as u16;
-    up[v]
+impl Ladder<'_> {
+    // The first node from v upwards that has a number below i.
+    fn climb(&self, n: usize, i: usize, v: usize) -> usize
+        requires { Standard n self.now.row.now × (entry self.now.up.now n < i) × (n ≤ v) × (v < nodes self.now.row.now) }
+        ensures { result ≡ climbed (nodes self.now.row.now) self.now.row.now self.now.up.now i v }
+    {
+        let mut u = v;
+        while i <= usize::from(self.up[u]) {
+            u = parent(self.row, u);
+        }
+        u
+    }
+
+    // Moves the place of sample s up to the first node that has a number below i, and answers that number.
+    fn lift(&self, n: usize, places: &mut [u16; MOST_SAMPLES], i: usize, s: usize) -> u16
+        requires { Standard n self.now.row.now × (entry self.now.up.now n < i) × (s < n)
+            × (n ≤ entry places.old s) × (entry places.old s < nodes self.now.row.now) }
+        ensures { Lifted self.now.row.now self.now.up.now places.old i s places.new result }
+    {
+        let v = self.climb(n, i, usize::from(places[s]));
+        places[s] = v as u16;
+        self.up[v]
+    }
 }
 
 // Puts each sample's place at its parent.
 fn start(n: usize, row: &[u16], places: &mut [u16; MOST_SAMPLES])
-    requires { Standard n row.now × (length places.old ≡ most_samples) }
-    ensures { Tabled (parent row.now) 0 n places.new × (length places.new ≡ most_samples) }
+    requires { Standard n row.now }
+    ensures { Tabled (parent row.now) 0 n places.new }
 {
-    let mut s = 0;
-    while s < n {
-        places[s] = row[s + 1];
-        s += 1;
-    }
+    places[..n].copy_from_slice(&row[1..n + 1]);
 }
 
 // Puts the parent of each new number where its smallest sample was.
-fn parents(n: usize, a: &[u16], up_a: &Table, b: &[u16], up_b: &Table, c: usize, mins: &mut Table)
-    requires { Climbable n a.now up_a.now b.now up_b.now mins.old c }
-    ensures { Tabled (parent_of n a.now up_a.now b.now up_b.now mins.old)
+fn parents(n: usize, a: &Ladder, b: &Ladder, c: usize, mins: &mut Table)
+    requires { Climbable n a.now.row.now a.now.up.now b.now.row.now b.now.up.now mins.old c }
+    ensures { Tabled (parent_of n a.now.row.now a.now.up.now b.now.row.now b.now.up.now mins.old)
         n c mins.new }
 {
     let mut places_a = [0u16; MOST_SAMPLES];
     let mut places_b = [0u16; MOST_SAMPLES];
-    start(n, a, &mut places_a);
-    start(n, b, &mut places_b);
-    let mut i = c;
-    while n + 1 < i {
-        i -= 1;
-        let s = wide(mins[i]);
-        let p = lift(n, a, up_a, &mut places_a, i, s);
-        let q = lift(n, b, up_b, &mut places_b, i, s);
-        mins[i] = larger(p, q);
+    start(n, a.row, &mut places_a);
+    start(n, b.row, &mut places_b);
+    for i in (n + 1..c).rev() {
+        let s = usize::from(mins[i]);
+        let p = a.lift(n, &mut places_a, i, s);
+        let q = b.lift(n, &mut places_b, i, s);
+        mins[i] = p.max(q);
     }
     mins[n] = ROOT_MARK as u16;
 }
 
 // Word w of the merged row.
-fn word(
-    n: usize,
-    a: &[u16],
-    up_a: &Table,
-    b: &[u16],
-    up_b: &Table,
-    parents: &Table,
-    c: usize,
-    w: usize,
-) -> u16
-    requires { Standard n a.now × Standard n b.now × (c < row_words n) }
-    ensures { result ≡ word_of n a.now up_a.now b.now up_b.now parents.now c w }
+fn word(n: usize, a: &Ladder, b: &Ladder, parents: &Table, c: usize, w: usize) -> u16
+    requires { Standard n a.now.row.now × Standard n b.now.row.now × (c < row_words n) }
+    ensures { result ≡ word_of n a.now.row.now a.now.up.now b.now.row.now b.now.up.now parents.now c w }
 {
     if w == 0 {
         return c as u16;
@@ -275,97 +228,64 @@ fn word(
     if n < w {
         return parents[w - 1];
     }
-    let p = parent(a, w - 1);
-    let q = parent(b, w - 1);
-    larger(up_a[p], up_b[q])
+    let p = parent(a.row, w - 1);
+    let q = parent(b.row, w - 1);
+    a.up[p].max(b.up[q])
 }
 
 // Writes the merged row.
-fn write_row(
-    n: usize,
-    a: &[u16],
-    up_a: &Table,
-    b: &[u16],
-    up_b: &Table,
-    parents: &Table,
-    c: usize,
-    out: &mut [u16],
-)
-    requires { Standard n a.now × Standard n b.now × (c < row_words n) × (length out.old ≡ row_words n) }
-    ensures { Tabled (word_of n a.now up_a.now b.now up_b.now parents.now c)
+fn write_row(n: usize, a: &Ladder, b: &Ladder, parents: &Table, c: usize, out: &mut [u16])
+    requires { Standard n a.now.row.now × Standard n b.now.row.now × (c < row_words n)
+        × (length out.old ≡ row_words n) }
+    ensures { Tabled (word_of n a.now.row.now a.now.up.now b.now.row.now b.now.up.now parents.now c)
         0 (row_words n) out.new }
 {
-    let mut w = 0;
-    while w < out.len() {
-        out[w] = word(n, a, up_a, b, up_b, parents, c, w);
-        w += 1;
+    for w in 0..out.len() {
+        out[w] = word(n, a, b, parents, c, w);
     }
 }
 
 // Writes the row of the groups that are kept of two standard rows, where these agree and the whole is among them.
-// It is handed the keys of both rows, and tells at which node each kept group of the first row has come.
-fn merge_ranked(
-    n: usize,
-    a: &[u16],
-    sizes_a: &Table,
-    lows_a: &Table,
-    keep_a: &[bool; TABLE],
-    b: &[u16],
-    sizes_b: &Table,
-    lows_b: &Table,
-    keep_b: &[bool; TABLE],
-    num: &mut Table,
-    out: &mut [u16],
-)
-    requires { Mergeable n a.now keep_a.now b.now keep_b.now
-        × Ranked n a.now sizes_a.now lows_a.now × Ranked n b.now sizes_b.now lows_b.now
-        × (length num.old ≡ table_words) × (length out.old ≡ row_words n) }
-    ensures { (out.new
-        ≡ row_of n (merged n a.now keep_a.now b.now keep_b.now))
-        × Settled n a.now keep_a.now num.new out.new
-        × (length num.new ≡ table_words) }
+// It answers at which node each kept group of the first row has come.
+fn merge_ranked(n: usize, a: &Side, b: &Side, out: &mut [u16]) -> Table
+    requires { Mergeable n a.now.row.now a.now.keep.now b.now.row.now b.now.keep.now
+        × Ranked n a.now.row.now a.now.ranks.now.size a.now.ranks.now.low
+        × Ranked n b.now.row.now b.now.ranks.now.size b.now.ranks.now.low × (length out.old ≡ row_words n) }
+    ensures { (out.new ≡ row_of n (merged n a.now.row.now a.now.keep.now b.now.row.now b.now.keep.now))
+        × Settled n a.now.row.now a.now.keep.now result out.new }
 {
+    let mut num_a: Table = [0; TABLE];
     let mut num_b: Table = [0; TABLE];
     let mut mins: Table = [0; TABLE];
-    *num = [0; TABLE];
-    let c = lockstep(
-        n, a, sizes_a, lows_a, keep_a, b, sizes_b, lows_b, keep_b, num, &mut num_b, &mut mins,
-    );
-    raise(n, a, num);
-    raise(n, b, &mut num_b);
-    parents(n, a, num, b, &num_b, c, &mut mins);
-    write_row(n, a, num, b, &num_b, &mins, c, out);
+    let c = lockstep(n, a, b, &mut num_a, &mut num_b, &mut mins);
+    raise(n, a.row, &mut num_a);
+    raise(n, b.row, &mut num_b);
+    let first = Ladder {
+        row: a.row,
+        up: &num_a,
+    };
+    let second = Ladder {
+        row: b.row,
+        up: &num_b,
+    };
+    parents(n, &first, &second, c, &mut mins);
+    write_row(n, &first, &second, &mins, c, out);
+    num_a
 }
 
 // The same row, and what the kept nodes of the first row have in a table is carried over to where they have come.
-pub fn merge_carried(
-    n: usize,
-    a: &[u16],
-    sizes_a: &Table,
-    lows_a: &Table,
-    keep_a: &[bool; TABLE],
-    b: &[u16],
-    sizes_b: &Table,
-    lows_b: &Table,
-    keep_b: &[bool; TABLE],
-    from: &Table,
-    to: &mut Table,
-    out: &mut [u16],
-)
-    requires { Mergeable n a.now keep_a.now b.now keep_b.now
-        × Ranked n a.now sizes_a.now lows_a.now × Ranked n b.now sizes_b.now lows_b.now
-        × (length to.old ≡ table_words) × (length out.old ≡ row_words n) }
-    ensures { CarriedOver n a.now keep_a.now b.now keep_b.now
+pub fn merge_carried(n: usize, a: &Side, b: &Side, from: &Table, to: &mut Table, out: &mut [u16])
+    requires { Mergeable n a.now.row.now a.now.keep.now b.now.row.now b.now.keep.now
+        × Ranked n a.now.row.now a.now.ranks.now.size a.now.ranks.now.low
+        × Ranked n b.now.row.now b.now.ranks.now.size b.now.ranks.now.low × (length out.old ≡ row_words n) }
+    ensures { CarriedOver n a.now.row.now a.now.keep.now b.now.row.now b.now.keep.now
         from.now to.old to.new out.new }
 {
-    let mut num: Table = [0; TABLE];
-    merge_ranked(
-        n, a, sizes_a, lows_a, keep_a, b, sizes_b, lows_b, keep_b, &mut num, out,
-    );
-    carry(n, nodes(a), keep_a, &num, from, to);
+    let num = merge_ranked(n, a, b, out);
+    carry(n, nodes(a.row), a.keep, &num, from, to);
 }
 
-// The same row, with the keys made here.
+// The same row, with the ranks made here.
 pub fn merge(
     n: usize,
     a: &[u16],
@@ -377,14 +297,15 @@ pub fn merge(
     requires { Mergeable n a.now keep_a.now b.now keep_b.now × (length out.old ≡ row_words n) }
     ensures { out.new ≡ row_of n (merged n a.now keep_a.now b.now keep_b.now) }
 {
-    let mut sizes_a: Table = [0; TABLE];
-    let mut lows_a: Table = [0; TABLE];
-    let mut sizes_b: Table = [0; TABLE];
-    let mut lows_b: Table = [0; TABLE];
-    let mut num: Table = [0; TABLE];
-    keys(n, a, &mut sizes_a, &mut lows_a);
-    keys(n, b, &mut sizes_b, &mut lows_b);
-    merge_ranked(
-        n, a, &sizes_a, &lows_a, keep_a, b, &sizes_b, &lows_b, keep_b, &mut num, out,
-    );
+    let first = Side {
+        row: a,
+        ranks: &Ranks::of(n, a),
+        keep: keep_a,
+    };
+    let second = Side {
+        row: b,
+        ranks: &Ranks::of(n, b),
+        keep: keep_b,
+    };
+    merge_ranked(n, &first, &second, out);
 }

@@ -1,2 +1,4 @@
 pub mod Filling
 pub mod Loops
+pub mod Scans
+pub mod StandardRows

@@ -2,12 +2,11 @@
 ghost use Rattle.std.specs.Prelude.{◌≡◌, ◌+◌, ◌-◌, ◌<◌, ◌≤◌, min, get_or, set};
 ghost use Rattle.trees.specs.Rows.{nodes};
 ghost use Rattle.trees.specs.Checks.{most_samples};
-ghost use Rattle.trees.specs.Falls.{Falls};
 ghost use Rattle.trees.specs.Tables.{Tabled, table_words, entry, one, own, seeded, Keys, least_at, rank_of};
 ghost use Rattle.trees.specs.Passes.{Stage, Offsets, Sized, Ranked, Starts};
 
 use crate::turns::step;
-use judge::nodes;
+use judge::{FallingRow, nodes};
 
 // A table has a word for each node of the largest row.
 pub const TABLE: usize = 1024;
@@ -20,121 +19,61 @@ const NO_KEY: u16 = 65535;
 // Between the ranks of two sizes: more than any sample.
 pub const RANK_STEP: usize = 1024;
 
-// What a pass starts with: the key of a sample, and e at an inner node.
-fn initial(n: usize, key: &Table, e: u16, v: usize) -> u16
-    requires { n ≤ most_samples }
-    ensures { result ≡ seeded n (entry key.now) e v }
-{
-    if v < n {
-        return key[v];
-    }
-    e
-}
-
-// The table that a pass starts with.
-fn seed(n: usize, m: usize, key: &Table, e: u16, t: &mut Table)
-    requires { (n ≤ most_samples) × (m ≤ table_words) }
-    ensures { Tabled (seeded n (entry key.now) e) 0 m t.new }
-{
-    let mut v = 0;
-    while v < m {
-        t[v] = initial(n, key, e, v);
-        v += 1;
-    }
-}
-
-// Node v hands its samples to its parent p, where they come after those that p has.
-fn hand(size: &mut Table, off: &mut Table, v: usize, p: usize)
-    requires { (v < table_words) × (p < table_words) × (get_or size.old p 0 + get_or size.old v 0 < 65536) }
-    ensures { (size.new ≡ set size.old p (get_or size.old p 0 + get_or size.old v 0))
-        × (off.new ≡ set off.old v (get_or size.old p 0)) }
-{
-    off[v] = size[p];
-    size[p] = size[p] + size[v];
-}
-
-// The pass that adds.
-fn add_up(n: usize, row: &[u16], m: usize, size: &mut Table, off: &mut Table)
-    requires { Falls n row.now × (m ≡ nodes row.now) × Stage n row.now ◌+◌ 0 one 0 size.old }
-    ensures { Sized n row.now size.new off.new }
-{
-    let mut done = 0;
-    while done + 1 < m {
-        let t = step(n, row, m, done);
-        hand(size, off, t.node, t.up);
-        done += 1;
-    }
-}
-
 // The size of each node's group, and where its samples start among those of its parent.
-fn sizes(n: usize, row: &[u16], size: &mut Table, off: &mut Table)
-    requires { Falls n row.now }
-    ensures { Sized n row.now size.new off.new }
+fn sizes(row: FallingRow, size: &mut Table, off: &mut Table)
+    ensures { Sized row.entry.n row.entry.row.now size.new off.new }
 {
-    let m = nodes(row);
-    seed(n, m, &[1; TABLE], 0, size);
-    add_up(n, row, m, size, off);
-}
-
-// The key at p is lowered to that at v.
-fn lower(t: &mut Table, v: usize, p: usize)
-    requires { (v < table_words) × (p < table_words) }
-    ensures { t.new ≡ set t.old p (min (get_or t.old p 0) (get_or t.old v 0)) }
-{
-    t[p] = t[p].min(t[v]);
+    let n = row.n;
+    let m = nodes(row.row);
+    size[..n].fill(1);
+    size[n..m].fill(0);
+    for done in 0..m - 1 {
+        let t = step(row, m, done);
+        off[t.node] = size[t.up];
+        size[t.up] += size[t.node];
+    }
 }
 
 // The least key of the samples of each node's group.
-pub fn least(n: usize, row: &[u16], key: &Table, out: &mut Table)
-    requires { Falls n row.now × Keys n key.now }
-    ensures { Tabled (least_at n row.now (entry key.now)) 0 (nodes row.now) out.new }
+pub fn least(row: FallingRow, key: &Table, out: &mut Table)
+    requires { Keys row.n key.now }
+    ensures { Tabled (least_at row.entry.n row.entry.row.now (entry key.now)) 0 (nodes row.entry.row.now) out.new }
 {
-    let m = nodes(row);
-    seed(n, m, key, NO_KEY, out);
-    let mut i = 0;
-    while i + 1 < m {
-        let t = step(n, row, m, i);
-        lower(out, t.node, t.up);
-        i += 1;
+    let n = row.n;
+    let m = nodes(row.row);
+    out[..n].copy_from_slice(&key[..n]);
+    out[n..m].fill(NO_KEY);
+    for i in 0..m - 1 {
+        let t = step(row, m, i);
+        out[t.up] = out[t.up].min(out[t.node]);
     }
 }
 
-// The interval of v starts at its offset inside that of p.
-fn place(start: &mut Table, off: &Table, v: usize, p: usize)
-    requires { (v < table_words) × (p < table_words) × (get_or start.old p 0 + get_or off.now v 0 < 65536) }
-    ensures { start.new ≡ set start.old v (get_or start.old p 0 + get_or off.now v 0) }
-{
-    start[v] = start[p] + off[v];
-}
-
 // Where each node's interval of places starts; a sample's is its place. The root comes first, and each node after its parent.
-pub fn starts(n: usize, row: &[u16], off: &Table, start: &mut Table)
-    requires { Falls n row.now × Offsets n row.now (nodes row.now - 1) off.now }
-    ensures { Starts n row.now (entry start.new) }
+pub fn starts(row: FallingRow, off: &Table, start: &mut Table)
+    requires { Offsets row.n row.row.now (nodes row.row.now - 1) off.now }
+    ensures { Starts row.entry.n row.entry.row.now (entry start.new) }
 {
-    let m = nodes(row);
-    start[n] = 0;
-    let mut i = m - 1;
-    while 0 < i {
-        i -= 1;
-        let t = step(n, row, m, i);
-        place(start, off, t.node, t.up);
+    let m = nodes(row.row);
+    start[row.n] = 0;
+    for i in (0..m - 1).rev() {
+        let t = step(row, m, i);
+        start[t.node] = start[t.up] + off[t.node];
     }
 }
 
 // Each sample its own key.
-fn numbers(n: usize, t: &mut Table)
-    requires { (n ≤ most_samples) }
-    ensures { Tabled own 0 n t.new }
+fn numbers(n: usize, key: &mut Table)
+    requires { n ≤ most_samples }
+    ensures { Tabled own 0 n key.new }
 {
-    let mut s = 0;
-    while s < n {
-        t[s] = s as u16;
-        s += 1;
+    for s in 0..n {
+        key[s] = s as u16;
     }
 }
 
 // The size of each node's group and its smallest sample: they settle the order of nodes (RULES 4.1).
+// A table is filled in place: returned by value it is copied, which costs time and stack.
 #[derive(Clone, Copy)]
 pub struct Ranks {
     pub size: Table,
@@ -142,29 +81,29 @@ pub struct Ranks {
 }
 
 impl Ranks {
+    // Room for the ranks of a row.
+    pub const EMPTY: Ranks = Ranks {
+        size: [0; TABLE],
+        low: [0; TABLE],
+    };
+
     // Those of a row.
-    pub fn of(n: usize, row: &[u16]) -> Ranks
-        requires { Falls n row.now }
-        ensures { Ranked n row.now result.size result.low }
+    pub fn fill(&mut self, row: FallingRow)
+        ensures { Ranked row.entry.n row.entry.row.now self.new.size self.new.low }
     {
         let mut off: Table = [0; TABLE];
-        Ranks::with_offsets(n, row, &mut off)
+        self.fill_with_offsets(row, &mut off);
     }
 
     // Those of a row, and where each node's samples start among those of its parent.
-    pub fn with_offsets(n: usize, row: &[u16], off: &mut Table) -> Ranks
-        requires { Falls n row.now }
-        ensures { Ranked n row.now result.size result.low × Sized n row.now result.size off.new }
+    pub fn fill_with_offsets(&mut self, row: FallingRow, off: &mut Table)
+        ensures { Ranked row.entry.n row.entry.row.now self.new.size self.new.low
+            × Sized row.entry.n row.entry.row.now self.new.size off.new }
     {
-        let mut ranks = Ranks {
-            size: [0; TABLE],
-            low: [0; TABLE],
-        };
         let mut key: Table = [0; TABLE];
-        sizes(n, row, &mut ranks.size, off);
-        numbers(n, &mut key);
-        least(n, row, &key, &mut ranks.low);
-        ranks
+        sizes(row, &mut self.size, off);
+        numbers(row.n, &mut key);
+        least(row, &key, &mut self.low);
     }
 
     // The rank of a node in standard order, as one number that rises: the size weighs most, then the smallest sample.

@@ -3,12 +3,12 @@ ghost use Rattle.std.specs.Prelude.{◌≡◌, ◌+◌, ◌*◌, ◌-◌, ◌<�
 ghost use Rattle.trees.specs.Rows.{nodes};
 ghost use Rattle.trees.specs.Checks.{fewest_samples, most_samples, row_words};
 ghost use Rattle.trees.specs.Valid.{standard};
-ghost use Rattle.trees.specs.Falls.{Falls, rightful, falling};
+ghost use Rattle.trees.specs.Falls.{rightful, falling};
 ghost use Rattle.trees.specs.Tables.{table_words, Most, rank_in};
 ghost use Rattle.trees.specs.Linear.{filler_zero, rising, ranked};
 
 use crate::pass::Ranks;
-use judge::{ROOT_MARK, nodes, parent};
+use judge::{FallingRow, ROOT_MARK, nodes, parent};
 
 // The samples that the last inner node has at least.
 const SMALLEST: u16 = 2;
@@ -32,15 +32,7 @@ fn falling(n: usize, row: &[u16]) -> bool
     ensures { result ≡ falling n row.now }
 {
     let m = nodes(row);
-    let mut v = 0;
-    while v < m {
-        let p = parent(row, v);
-        if !rightful(n, m, v, p) {
-            return false;
-        }
-        v += 1;
-    }
-    true
+    (0..m).all(|v| rightful(n, m, v, parent(row, v)))
 }
 
 // Whether the words after those of the nodes are 0 (RULES 2.3).
@@ -56,24 +48,17 @@ fn rising(n: usize, last: usize, ranks: &Ranks) -> bool
     requires { (n ≤ most_samples) × (last < table_words) × Most n (last + 1) ranks.now.size }
     ensures { result ≡ rising (rank_in n ranks.now.size ranks.now.low) n last }
 {
-    let mut v = n;
-    while v < last {
-        if ranks.rank(n, v + 1) <= ranks.rank(n, v) {
-            return false;
-        }
-        v += 1;
-    }
-    true
+    (n..last).all(|v| ranks.rank(n, v) < ranks.rank(n, v + 1))
 }
 
 // Whether the ranks of the inner nodes rise, and the last of them has two samples.
-fn ranked(n: usize, row: &[u16]) -> bool
-    requires { Falls n row.now }
-    ensures { result ≡ ranked n row.now }
+fn ranked(row: FallingRow) -> bool
+    ensures { result ≡ ranked row.entry.n row.entry.row.now }
 {
-    let ranks = Ranks::of(n, row);
-    let last = nodes(row) - 1;
-    (SMALLEST <= ranks.size[last]) & rising(n, last, &ranks)
+    let mut ranks = Ranks::EMPTY;
+    ranks.fill(row);
+    let last = nodes(row.row) - 1;
+    (SMALLEST <= ranks.size[last]) & rising(row.n, last, &ranks)
 }
 
 // Whether a row is valid and in standard numbering (RULES 4). It counts no children: ranks that rise, and two samples in the last node, imply two each.
@@ -88,5 +73,5 @@ pub fn is_standard(n: usize, row: &[u16]) -> bool
     if !falling(n, row) {
         return false;
     }
-    filler_zero(n, row) & ranked(n, row)
+    filler_zero(n, row) & ranked(FallingRow { n, row })
 }

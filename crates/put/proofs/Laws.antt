@@ -1,12 +1,14 @@
 -- What the loops keep that put a text or a number into a buffer. Assumes nothing.
 use Prim.Native.Nat.{ℕ, ◌+◌, ◌-◌, ◌/◌, ◌%◌, ◌≤◌, ◌<◌}
 use mathlib.Core.Path.{◌≡◌, refl, sym, ap, ◌∙◌}
+use mathlib.Core.Logic.{⊎_elim}
 use mathlib.Core.List.{List, [], ◌∷◌, ◌++◌}
 use native.Mathlib.Omega.{arith}
 use native.Mathlib.Numerals.{add-one}
-use lib.ListN.{length, get_or, drop, set, length-set}
+use lib.ListN.{length, get_or, drop, set}
 use lib.Seq.{sets, sets-eq, drop-cons, drop-drop}
 use Rattle.std.proofs.Common.{append_assoc}
+use Rattle.std.proofs.lemmas.Bool.{cases_lt}
 use borrow.Rule.Slice.PartMut.{put_mid}
 use Rattle.ascii.specs.Decimal.{digit, decimal}
 use Rattle.ascii.specs.DecimalLaws.{decimal_small, decimal_step, decimal_longer, decimal_full}
@@ -38,36 +40,57 @@ put_copied text out part at h e =
     let l : at + length text - at ≡ length text = omega arith in
     record { bytes = rw (e, l, sets-eq text out at h, drop-drop, append_assoc); place = refl }
 
--- The digits of the rest, stored from at on, make the digits of x; the last of them belongs at i.
+-- The digits of the rest, stored from at on, make the digits of x; the last of them belongs before i.
 pub record DigitsLeft (x at : ℕ) (out₀ : List ℕ) (i rest : ℕ) (out : List ℕ) : Type 0 where
   pub whole : sets out at (decimal rest) ≡ sets out₀ at (decimal x)
-  pub place : i + 1 ≡ at + length (decimal rest)
-  pub inside : i < at + length (decimal x)
-  pub long : length out ≡ length out₀
+  pub place : i ≡ at + length (decimal rest)
+  pub inside : i ≤ at + length (decimal x)
 
-pub digits_start : {x at i : ℕ} {out : List ℕ} → i + 1 ≡ at + length (decimal x) → DigitsLeft x at out i x out
-digits_start e = record { whole = refl; place = e; inside = omega arith; long = refl }
+-- Until the first digit is stored some are left; then all of them are.
+pub record DigitsFrom (x at : ℕ) (out₀ : List ℕ) (i rest : ℕ) (out : List ℕ) : Type 0 where
+  pub low : at ≤ i
+  pub left : at < i → DigitsLeft x at out₀ i rest out
+  pub all : i ≡ at → out ≡ sets out₀ at (decimal x)
 
-module _ {x at i rest : ℕ} {out₀ out : List ℕ} (l : DigitsLeft x at out₀ i rest out) where
-  -- two digits or more are left
-  pub digits_more : 10 ≤ rest → at < i
-  digits_more h = omega (arith, l.place, decimal_longer rest h, decimal_full (rest / 10))
+pub digits_start : {x at i : ℕ} {out : List ℕ} → i ≡ at + length (decimal x) → DigitsFrom x at out i x out
+digits_start {x} e = record {
+  low = omega arith;
+  left = λ h. record { whole = refl; place = e; inside = omega arith };
+  all = λ q. absurd (omega (arith, decimal_full x));
+}
 
-  pub digits_next : 10 ≤ rest → DigitsLeft x at out₀ (i - 1) (rest / 10) (set out i (digit (rest % 10)))
-  digits_next h =
+module _ {x at i rest : ℕ} {out₀ out : List ℕ} (from : DigitsFrom x at out₀ i rest out) (h : at < i) where
+  -- a digit in front of which there are more
+  digits_more : 10 ≤ rest → DigitsFrom x at out₀ (i - 1) (rest / 10) (set out (i - 1) (digit (rest % 10)))
+  digits_more k =
+      let l = from.left h in
       let ds : List ℕ = decimal (rest / 10) in
-      let e : decimal rest ≡ ds ++ (digit (rest % 10) ∷ []) = decimal_step rest h in
-      let k : i ≡ at + length ds = omega (arith, l.place, decimal_longer rest h) in
+      let e : decimal rest ≡ ds ++ (digit (rest % 10) ∷ []) = decimal_step rest k in
+      let p : i - 1 ≡ at + length ds = omega (arith, l.place, decimal_longer rest k) in
       record {
-        whole = sets_set out at ds i (digit (rest % 10)) (omega arith) ∙ ap (λ (j : ℕ). set (sets out at ds) j (digit (rest % 10))) k
-            ∙ sym (sets_append out at ds (digit (rest % 10) ∷ [])) ∙ (rw e at l.whole);
-        place = omega (arith, decimal_full (rest / 10));
-        inside = omega (arith, l.inside);
-        long = length-set out i _ ∙ l.long;
+        low = omega arith;
+        left = λ _. record {
+          whole = sets_set out at ds (i - 1) (digit (rest % 10)) (omega arith)
+              ∙ ap (λ (j : ℕ). set (sets out at ds) j (digit (rest % 10))) p ∙ sym (sets_append out at ds (digit (rest % 10) ∷ []))
+              ∙ (rw e at l.whole);
+          place = p;
+          inside = omega (arith, l.inside);
+        };
+        all = λ q. absurd (omega (arith, decimal_full (rest / 10)));
       }
 
-  pub digits_end : rest < 10 → Put (decimal x) out₀ at (set out i (digit rest)) (at + length (decimal x))
-  digits_end h =
-      let e : decimal rest ≡ (digit rest ∷ []) = decimal_small rest h in
-      let k : i ≡ at = omega (arith, l.place, ap length e) in
-      record { bytes = rw k (rw e at l.whole); place = refl }
+  -- the first digit
+  digits_last : rest < 10 → DigitsFrom x at out₀ (i - 1) (rest / 10) (set out (i - 1) (digit (rest % 10)))
+  digits_last k =
+      let l = from.left h in
+      let e : decimal rest ≡ (digit rest ∷ []) = decimal_small rest k in
+      let p : i - 1 ≡ at = omega (arith, l.place, ap length e) in
+      let d : rest % 10 ≡ rest = omega arith in
+      record {
+        low = omega arith;
+        left = λ q. absurd (omega arith);
+        all = λ _. rw (p, d) (rw e at l.whole);
+      }
+
+  pub digits_next : DigitsFrom x at out₀ (i - 1) (rest / 10) (set out (i - 1) (digit (rest % 10)))
+  digits_next = ⊎_elim (λ k. digits_last k) (λ k. digits_more k) (cases_lt rest 10)

@@ -1,4 +1,5 @@
 // Bytes, texts and numbers put into a buffer at a place: each answers the place after what it put.
+// A struct of buffer and place would be no plainer: each call would lend it, and each promise name its two parts.
 #![tactic(auto)]
 
 ghost use Rattle.std.specs.Prelude.{◌≡◌, [], ◌∷◌, ◌+◌, ◌<◌, ◌≤◌, length};
@@ -54,13 +55,10 @@ pub fn put_number(x: usize, out: &mut [u8], at: usize) -> usize
     ensures { Put (decimal x) out.old at out.new result }
 {
     let end = at + width(x);
-    let mut i = end - 1;
     let mut rest = x;
-    while TEN <= rest {
+    for i in (at..end).rev() {
         out[i] = digit(rest % TEN);
         rest /= TEN;
-        i -= 1;
     }
-    out[i] = digit(rest);
     end
 }

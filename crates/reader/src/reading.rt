@@ -12,7 +12,7 @@ ghost use Rattle.reader.specs.Results.{Unread, Lies, checks_of, left_in};
 
 use crate::checks::check_samples;
 use crate::held::whole;
-use judge::{ROOT_MARK, Reason, Refusal};
+use judge::{ROOT_MARK, Reason, Refusal, ValidRow};
 use lay::{Kept, MARKS, Marks, ROW, Row, Standing, link};
 use row::renumber_valid;
 
@@ -47,7 +47,7 @@ fn renumber_front(n: usize, row: &[u16], out: &mut [u16])
     requires { Valid n (take (row_words n) row.now) × (length out.old ≡ row_words n) }
     ensures { out.new ≡ renumbered n (take (row_words n) row.now) }
 {
-    renumber_valid(n, &row[..2 * n], out);
+    renumber_valid(ValidRow { n, row: &row[..2 * n] }, out);
 }
 
 // Reading into `out`, with room for the row and the marks.

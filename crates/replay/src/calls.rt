@@ -12,33 +12,28 @@
 //
 // A text stands in words, one byte in each; a word that is no byte is as an unknown op.
 //
-// A call that is added has a line above, a number below, an arm in `called` and a function of its own.
-ghost use Rattle.std.specs.Prelude.{◌≡◌, length};
+// A call that is added has a line above, a variant below, an arm in `op_of` and in `called` and a function of its own.
+ghost use Rattle.std.specs.Prelude.{◌≡◌, length, IfSome};
 ghost use Rattle.replay.specs.Words.{Short, Roomy};
-ghost use Rattle.replay.specs.Calls.{head_of, plain_reply, reply_to, reply_counts, reply_length, reply_words};
+ghost use Rattle.replay.specs.Calls.{op_number, head_of, counts_reply, refused_reply, reply_to, reply_counts, reply_length, reply_words};
 
 use crate::texts::{narrow, widen};
 use compare::Comparison;
-use judge::{Answer, wide};
-use writer::Written;
+use judge::Refusal;
 
-const OP_OPEN: u16 = 1;
-
-const OP_ADD: u16 = 2;
-
-const OP_WITHDRAW: u16 = 3;
-
-const OP_REPORT: u16 = 4;
-
-const OP_JUDGE: u16 = 5;
-
-const OP_RENUMBER: u16 = 6;
-
-const OP_COMPARE: u16 = 7;
-
-const OP_READ: u16 = 8;
-
-const OP_WRITE: u16 = 9;
+// The calls.
+#[derive(Clone, Copy, Debug, PartialEq, Eq)]
+enum Op {
+    Open,
+    Add,
+    Withdraw,
+    Report,
+    Judge,
+    Renumber,
+    Compare,
+    Read,
+    Write,
+}
 
 // What y says where supports are wanted.
 const SUPPORTS: u16 = 1;
@@ -47,7 +42,7 @@ const SUPPORTS: u16 = 1;
 const WORD: usize = 65536;
 
 // The head of a request: the call, its numbers x and y, and how many words its buffers have.
-#[derive(Clone, Copy)]
+#[derive(Clone, Copy, Debug, PartialEq, Eq)]
 pub struct Head {
     pub op: u16,
     pub x: u16,
@@ -58,7 +53,7 @@ pub struct Head {
 }
 
 // The head of a reply: a refusal's number and place, both 0 for an accepted call, and three counts.
-#[derive(Clone, Copy)]
+#[derive(Clone, Copy, Debug, PartialEq, Eq)]
 pub struct Reply {
     pub number: usize,
     pub place: usize,
@@ -67,35 +62,51 @@ pub struct Reply {
     pub c3: usize,
 }
 
-// What comes of a request.
-#[derive(Clone, Copy)]
-pub enum Outcome {
-    Told(Reply),
-    Unknown,
+// The call with a number, if there is one.
+fn op_of(number: u16) -> Option<Op>
+    ensures { IfSome result (λ op. op_number op ≡ number) }
+{
+    match number {
+        1 => Some(Op::Open),
+        2 => Some(Op::Add),
+        3 => Some(Op::Withdraw),
+        4 => Some(Op::Report),
+        5 => Some(Op::Judge),
+        6 => Some(Op::Renumber),
+        7 => Some(Op::Compare),
+        8 => Some(Op::Read),
+        9 => Some(Op::Write),
+        _ => None,
+    }
 }
 
-// What comes of the call that the head asks for. It leaves in the buffers what the call leaves; `bytes` is room for a text.
-pub fn called(head: Head, a: &mut [u16], b: &mut [u16], c: &mut [u16], bytes: &mut [u8]) -> Outcome
+// What comes of the call that the head asks for, or nothing if there is no such call. It leaves in the buffers what the call
+// leaves; `bytes` is room for a text.
+pub fn called(
+    head: Head,
+    a: &mut [u16],
+    b: &mut [u16],
+    c: &mut [u16],
+    bytes: &mut [u8],
+) -> Option<Reply>
     requires { Short a.old × Short c.old × Roomy bytes.old }
 {
-    let op = head.op;
-    match op {
-        OP_OPEN => Outcome::Told(opened(head, a)),
-        OP_ADD => Outcome::Told(added(head, a, b)),
-        OP_WITHDRAW => Outcome::Told(withdrawn(head, a)),
-        OP_REPORT => Outcome::Told(reported(head, a, b, c)),
-        OP_JUDGE => Outcome::Told(judged(head, a)),
-        OP_RENUMBER => Outcome::Told(renumbered(head, a, b)),
-        OP_COMPARE => Outcome::Told(compared(head, a, b)),
-        OP_READ => read(head, a, b, bytes),
-        OP_WRITE => written(head, a, b, c, bytes),
-        _ => Outcome::Unknown,
+    match op_of(head.op)? {
+        Op::Open => Some(opened(head, a)),
+        Op::Add => Some(added(head, a, b)),
+        Op::Withdraw => Some(withdrawn(head, a)),
+        Op::Report => Some(reported(head, a, b, c)),
+        Op::Judge => Some(judged(head, a)),
+        Op::Renumber => Some(renumbered(head, a, b)),
+        Op::Compare => Some(compared(head, a, b)),
+        Op::Read => read(head, a, b, bytes),
+        Op::Write => written(head, a, b, c, bytes),
     }
 }
 
 // The reply to opening the study a.
 fn opened(head: Head, a: &mut [u16]) -> Reply {
-    reply_to(arb::open(wide(head.x), a))
+    reply_to(arb::open(usize::from(head.x), a))
 }
 
 // The reply to adding the row b to the study a.
@@ -110,26 +121,26 @@ fn withdrawn(head: Head, a: &mut [u16]) -> Reply {
 
 // The reply to reporting the study a in b and c.
 fn reported(head: Head, a: &[u16], b: &mut [u16], c: &mut [u16]) -> Reply {
-    reply_to(arb::report(a, wide(head.x), b, c))
+    reply_to(arb::report(a, usize::from(head.x), b, c))
 }
 
 // The reply to judging the row a.
 fn judged(head: Head, a: &[u16]) -> Reply {
-    reply_to(arb::judge(wide(head.x), a))
+    reply_to(arb::judge(usize::from(head.x), a))
 }
 
 // The reply to renumbering the row a in b.
 fn renumbered(head: Head, a: &[u16], b: &mut [u16]) -> Reply {
-    reply_to(arb::renumber(wide(head.x), a, b))
+    reply_to(arb::renumber(usize::from(head.x), a, b))
 }
 
 // The reply to comparing the rows a and b.
 fn compared(head: Head, a: &[u16], b: &[u16]) -> Reply {
-    reply_counts(arb::compare(wide(head.x), a, b))
+    reply_counts(arb::compare(usize::from(head.x), a, b))
 }
 
 // What comes of reading the text a in b.
-fn read(head: Head, a: &[u16], b: &mut [u16], bytes: &mut [u8]) -> Outcome
+fn read(head: Head, a: &[u16], b: &mut [u16], bytes: &mut [u8]) -> Option<Reply>
     requires { Short a.now × Roomy bytes.old }
 {
     let n = a.len();
@@ -137,17 +148,17 @@ fn read(head: Head, a: &[u16], b: &mut [u16], bytes: &mut [u8]) -> Outcome
 }
 
 // The same, with just so many bytes as the text has.
-fn read_text(head: Head, a: &[u16], b: &mut [u16], text: &mut [u8]) -> Outcome
+fn read_text(head: Head, a: &[u16], b: &mut [u16], text: &mut [u8]) -> Option<Reply>
     requires { length text.old ≡ length a.now }
 {
     if !narrow(a, text) {
-        return Outcome::Unknown;
+        return None;
     }
-    Outcome::Told(reply_to(arb::read_newick(wide(head.x), text, b)))
+    Some(reply_to(arb::read_newick(usize::from(head.x), text, b)))
 }
 
 // What comes of writing the row a, with the support b if it is wanted, in the text c.
-fn written(head: Head, a: &[u16], b: &[u16], c: &mut [u16], bytes: &mut [u8]) -> Outcome
+fn written(head: Head, a: &[u16], b: &[u16], c: &mut [u16], bytes: &mut [u8]) -> Option<Reply>
     requires { Short c.old × Roomy bytes.old }
 {
     let n = c.len();
@@ -155,79 +166,80 @@ fn written(head: Head, a: &[u16], b: &[u16], c: &mut [u16], bytes: &mut [u8]) ->
 }
 
 // The same, with just so many bytes as the text has.
-fn written_text(head: Head, a: &[u16], b: &[u16], c: &mut [u16], text: &mut [u8]) -> Outcome
+fn written_text(head: Head, a: &[u16], b: &[u16], c: &mut [u16], text: &mut [u8]) -> Option<Reply>
     requires { length text.old ≡ length c.old }
 {
     if !narrow(c, text) {
-        return Outcome::Unknown;
+        return None;
     }
     let written = put_row(head, a, b, text);
     widen(text, c);
-    Outcome::Told(reply_length(written))
+    Some(reply_length(written))
 }
 
 // What writing the row a answers, with the support b or without.
-fn put_row(head: Head, a: &[u16], b: &[u16], text: &mut [u8]) -> Written
+fn put_row(head: Head, a: &[u16], b: &[u16], text: &mut [u8]) -> Result<usize, Refusal>
     ensures { length text.new ≡ length text.old }
 {
     if head.y == SUPPORTS {
-        return arb::write_newick_supports(wide(head.x), a, b, text);
+        return arb::write_newick_supports(usize::from(head.x), a, b, text);
     }
-    arb::write_newick(wide(head.x), a, text)
+    arb::write_newick(usize::from(head.x), a, text)
 }
 
 // The reply that a writing makes.
-fn reply_length(written: Written) -> Reply
+fn reply_length(written: Result<usize, Refusal>) -> Reply
     ensures { result ≡ reply_length written }
 {
     match written {
-        Written::Length(c1) => Reply {
-            number: 0,
-            place: 0,
-            c1,
-            c2: 0,
-            c3: 0,
-        },
-        Written::Refused(number, place) => plain_reply(number, place),
+        Ok(length) => counts_reply(length, 0, 0),
+        Err(refusal) => refused_reply(refusal),
     }
 }
 
 // The reply that a comparison makes.
-fn reply_counts(comparison: Comparison) -> Reply
-    ensures { result ≡ reply_counts comparison }
+fn reply_counts(compared: Result<Comparison, Refusal>) -> Reply
+    ensures { result ≡ reply_counts compared }
 {
-    match comparison {
-        Comparison::Counted(c1, c2, c3) => Reply {
-            number: 0,
-            place: 0,
-            c1,
-            c2,
-            c3,
-        },
-        Comparison::Refused(number, place) => plain_reply(number, place),
+    match compared {
+        Ok(groups) => counts_reply(groups.both, groups.first, groups.second),
+        Err(refusal) => refused_reply(refusal),
     }
 }
 
 // The reply that an answer makes.
-fn reply_to(answer: Answer) -> Reply
+fn reply_to(answer: Result<(), Refusal>) -> Reply
     ensures { result ≡ reply_to answer }
 {
     match answer {
-        Answer::Accepted => plain_reply(0, 0),
-        Answer::Refused(number, place) => plain_reply(number, place),
+        Ok(()) => counts_reply(0, 0, 0),
+        Err(refusal) => refused_reply(refusal),
     }
 }
 
 // The reply with a refusal's number and place, and no counts.
-fn plain_reply(number: usize, place: usize) -> Reply
-    ensures { result ≡ plain_reply number place }
+fn refused_reply(refusal: Refusal) -> Reply
+    ensures { result ≡ refused_reply refusal }
 {
     Reply {
-        number,
-        place,
+        number: refusal.reason.number(),
+        place: refusal.place,
         c1: 0,
         c2: 0,
         c3: 0,
+    }
+}
+
+// The reply of a call that is accepted, with its counts.
+fn counts_reply(c1: usize, c2: usize, c3: usize) -> Reply
+    ensures { result ≡ counts_reply c1 c2 c3 }
+{
+    Reply {
+        number: 0,
+        place: 0,
+        c1,
+        c2,
+        c3,
     }
 }
 

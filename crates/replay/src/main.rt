@@ -14,44 +14,40 @@ mod moves;
 mod texts;
 mod words;
 
-ghost use Rattle.replay.specs.Words.{Whole, Short, Roomy};
+ghost use Rattle.replay.specs.Words.{Short, Roomy};
 
-use calls::{Head, Outcome, Reply};
+use calls::{Head, Reply};
 use std::io;
 use std::io::{Read, Write};
+use words::{MOST_BYTES, MOST_WORDS};
 
 // Requests that one run answers at most: a loop has to end, and nothing says that input does.
 const MOST_REQUESTS: u64 = u64::MAX;
 
+// Room for the three buffers of a call, and for the bytes of one of them.
+#[derive(Drop)]
+struct Room {
+    a: [u16; MOST_WORDS],
+    b: [u16; MOST_WORDS],
+    c: [u16; MOST_WORDS],
+    bytes: [u8; MOST_BYTES],
+}
+
 // Answers one request after another, all of them in the same room.
 fn main(rt: HostRuntime) -> io::Result<()> {
-    let mut a = words::buffer();
-    let mut b = words::buffer();
-    let mut c = words::buffer();
-    let mut bytes = words::byte_buffer();
-    answer_all(
-        &mut rt.stdin(),
-        &mut rt.stdout(),
-        &mut a,
-        &mut b,
-        &mut c,
-        &mut bytes,
-    )
+    let mut room = Room {
+        a: [0; MOST_WORDS],
+        b: [0; MOST_WORDS],
+        c: [0; MOST_WORDS],
+        bytes: [0; MOST_BYTES],
+    };
+    answer_all(&mut rt.stdin(), &mut rt.stdout(), &mut room)
 }
 
 // Answers requests until there is none.
-fn answer_all<R: Read, W: Write>(
-    input: &mut R,
-    output: &mut W,
-    a: &mut [u16],
-    b: &mut [u16],
-    c: &mut [u16],
-    bytes: &mut [u8],
-) -> io::Result<()>
-    requires { Whole a.old × Whole b.old × Whole c.old × Roomy bytes.old }
-{
+fn answer_all<R: Read, W: Write>(input: &mut R, output: &mut W, room: &mut Room) -> io::Result<()> {
     for _ in 0..MOST_REQUESTS {
-        if !answer_next(input, output, a, b, c, bytes)? {
+        if !answer_next(input, output, room)? {
             break;
         }
     }
@@ -62,42 +58,31 @@ fn answer_all<R: Read, W: Write>(
 fn answer_next<R: Read, W: Write>(
     input: &mut R,
     output: &mut W,
-    a: &mut [u16],
-    b: &mut [u16],
-    c: &mut [u16],
-    bytes: &mut [u8],
-) -> io::Result<bool>
-    requires { Whole a.old × Whole b.old × Whole c.old × Roomy bytes.old }
-{
-    let mut six = [0u16; 6];
-    if !moves::read_words(input, &mut six, bytes)? {
+    room: &mut Room,
+) -> io::Result<bool> {
+    let mut six = [0; 6];
+    if !moves::read_words(input, &mut six, &mut room.bytes)? {
         return Ok(false);
     }
+    let Room { a, b, c, bytes } = room;
     answer_head(input, output, calls::head_of(&six), a, b, c, bytes)
 }
 
 // Answers the request with this head, unless a buffer is too long, and says whether it did.
+// From here on the parts of the room go one by one: no proof is made where two fields are lent at once behind a reference.
 fn answer_head<R: Read, W: Write>(
     input: &mut R,
     output: &mut W,
     head: Head,
-    a: &mut [u16],
-    b: &mut [u16],
-    c: &mut [u16],
-    bytes: &mut [u8],
-) -> io::Result<bool>
-    requires { Whole a.old × Whole b.old × Whole c.old × Roomy bytes.old }
-{
-    let la = judge::wide(head.la);
-    let lb = judge::wide(head.lb);
-    let lc = judge::wide(head.lc);
-    if la > words::MOST_WORDS {
-        return Ok(false);
-    }
-    if lb > words::MOST_WORDS {
-        return Ok(false);
-    }
-    if lc > words::MOST_WORDS {
+    a: &mut [u16; MOST_WORDS],
+    b: &mut [u16; MOST_WORDS],
+    c: &mut [u16; MOST_WORDS],
+    bytes: &mut [u8; MOST_BYTES],
+) -> io::Result<bool> {
+    let la = usize::from(head.la);
+    let lb = usize::from(head.lb);
+    let lc = usize::from(head.lc);
+    if la.max(lb).max(lc) > MOST_WORDS {
         return Ok(false);
     }
     answer_call(
@@ -140,7 +125,7 @@ fn make_call<W: Write>(
 ) -> io::Result<bool>
     requires { Short a.old × Short b.old × Short c.old × Roomy bytes.old }
 {
-    let Outcome::Told(reply) = calls::called(head, a, b, c, bytes) else {
+    let Some(reply) = calls::called(head, a, b, c, bytes) else {
         return Ok(false);
     };
     write_reply(output, reply, a, b, c, bytes)?;

@@ -1,7 +1,7 @@
 // Moves words from the input and to the output, by way of bytes.
 ghost use Rattle.replay.specs.Words.{Short, Roomy};
 
-use crate::words::{fill_bytes, fill_words};
+use crate::words::{WORD_BYTES, fill_bytes, fill_words};
 use std::io;
 use std::io::{ErrorKind, Read, Write};
 
@@ -22,7 +22,7 @@ fn read_bytes<R: Read>(input: &mut R, bytes: &mut [u8]) -> io::Result<bool> {
 pub fn read_words<R: Read>(input: &mut R, words: &mut [u16], bytes: &mut [u8]) -> io::Result<bool>
     requires { Short words.old × Roomy bytes.old }
 {
-    let n = 2 * words.len();
+    let n = WORD_BYTES * words.len();
     if !read_bytes(input, &mut bytes[..n])? {
         return Ok(false);
     }
@@ -34,7 +34,7 @@ pub fn read_words<R: Read>(input: &mut R, words: &mut [u16], bytes: &mut [u8]) -
 pub fn write_words<W: Write>(output: &mut W, words: &[u16], bytes: &mut [u8]) -> io::Result<()>
     requires { Short words.now × Roomy bytes.old }
 {
-    let n = 2 * words.len();
+    let n = WORD_BYTES * words.len();
     fill_bytes(words, &mut bytes[..n]);
     output.write_all(&bytes[..n])
 }

@@ -13,46 +13,44 @@ ghost use Rattle.judge.specs.Verdicts.{verdict};
 ghost use Rattle.report.specs.Supports.{support_word};
 
 use candidates::agreed_row;
-use judge::{Answer, Refusal, line, nodes, words_both};
-use passes::{TABLE, Table};
+use count::Held;
+use judge::{Reason, Refusal, line, nodes, words_both};
+use passes::Table;
 use slots::{in_force, samples};
 use study::study_given;
 pub use thresholds::threshold;
 use thresholds::threshold_given;
 
 // Check 14: no run is in force (RULES 7.5).
-fn runs_given(k: usize) -> Answer
+fn runs_given(k: usize) -> Result<(), Refusal>
     ensures { verdict result ≡ asked (line 14 (eqb k 0)) }
 {
-    line(Refusal::EMPTY, k == 0)
+    line(Reason::Empty, k == 0)
 }
 
 // The checks of a report that are left where the study is known to be well formed (RULES 7.8).
-fn formed_checks(words: &[u16], p: usize, agreed: &[u16], support: &[u16]) -> Answer
+#[tactic(auto, using(runs::proofs::SlotLaws::formed_long))]
+fn formed_checks(words: &[u16], p: usize, agreed: &[u16], support: &[u16]) -> Result<(), Refusal>
     requires { Formed words.now }
     ensures { verdict result ≡ (reported words.now p agreed.now support.now).verdict }
 {
     let t = threshold(p);
     let k = in_force(words);
-    let a = words_both(samples(words), agreed, support);
-    let Answer::Accepted = a else {
-        return a;
-    };
-    let b = threshold_given(t);
-    let Answer::Accepted = b else {
-        return b;
-    };
+    words_both(samples(words), agreed, support)?;
+    threshold_given(t)?;
     runs_given(k)
 }
 
 // All checks of a report (RULES 7.8).
-pub fn report_checks(words: &[u16], p: usize, agreed: &[u16], support: &[u16]) -> Answer
+pub fn report_checks(
+    words: &[u16],
+    p: usize,
+    agreed: &[u16],
+    support: &[u16],
+) -> Result<(), Refusal>
     ensures { verdict result ≡ (reported words.now p agreed.now support.now).verdict }
 {
-    let a = study_given(words);
-    let Answer::Accepted = a else {
-        return a;
-    };
+    study_given(words)?;
     formed_checks(words, p, agreed, support)
 }
 
@@ -75,10 +73,8 @@ pub fn write_supports(n: usize, m: usize, k: usize, holders: &Table, out: &mut [
     requires { (m ≤ table_words) × (k ≤ most_runs) }
     ensures { Tabled (support_word n m k holders.now) 0 (length out.old) out.new }
 {
-    let mut w = 0;
-    while w < out.len() {
-        out[w] = support_word(n, m, k, holders, w);
-        w += 1;
+    for (w, word) in out.iter_mut().enumerate() {
+        *word = support_word(n, m, k, holders, w);
     }
 }
 
@@ -88,38 +84,40 @@ fn both_rows(words: &[u16], p: usize, agreed: &mut [u16], support: &mut [u16])
     ensures agreed { agreed.new ≡ (reported words.now p agreed.old support.old).agreed_row }
     ensures support { support.new ≡ (reported words.now p agreed.old support.old).support_row }
 {
-    let n = samples(words);
-    let k = in_force(words);
-    let mut held: Table = [0; TABLE];
-    agreed_row(n, words, k, threshold(p), agreed, support, &mut held);
-    write_supports(n, nodes(agreed), k, &held, support);
+    let study = Held::of(words);
+    let held = agreed_row(study, threshold(p), agreed, support);
+    write_supports(study.n, nodes(agreed), study.k, &held, support);
 }
 
 // The report of a study that is known to be well formed.
-pub fn report_formed(words: &[u16], p: usize, agreed: &mut [u16], support: &mut [u16]) -> Answer
+pub fn report_formed(
+    words: &[u16],
+    p: usize,
+    agreed: &mut [u16],
+    support: &mut [u16],
+) -> Result<(), Refusal>
     requires { Formed words.now }
     ensures answer { verdict result ≡ (reported words.now p agreed.old support.old).verdict }
     ensures agreed { agreed.new ≡ (reported words.now p agreed.old support.old).agreed_row }
     ensures support { support.new ≡ (reported words.now p agreed.old support.old).support_row }
 {
-    let a = formed_checks(words, p, agreed, support);
-    let Answer::Accepted = a else {
-        return a;
-    };
+    formed_checks(words, p, agreed, support)?;
     both_rows(words, p, agreed, support);
-    Answer::Accepted
+    Ok(())
 }
 
 // The report at p: a refusal that leaves both buffers as they were, or the agreed row and the support row.
-pub fn report(words: &[u16], p: usize, agreed: &mut [u16], support: &mut [u16]) -> Answer
+pub fn report(
+    words: &[u16],
+    p: usize,
+    agreed: &mut [u16],
+    support: &mut [u16],
+) -> Result<(), Refusal>
     ensures answer { verdict result ≡ (reported words.now p agreed.old support.old).verdict }
     ensures agreed { agreed.new ≡ (reported words.now p agreed.old support.old).agreed_row }
     ensures support { support.new ≡ (reported words.now p agreed.old support.old).support_row }
 {
-    let a = report_checks(words, p, agreed, support);
-    let Answer::Accepted = a else {
-        return a;
-    };
+    report_checks(words, p, agreed, support)?;
     both_rows(words, p, agreed, support);
-    Answer::Accepted
+    Ok(())
 }

@@ -5,7 +5,7 @@ ghost use Rattle.trees.specs.Thresholds.{threshold};
 ghost use Rattle.runs.specs.Reports.{check16};
 ghost use Rattle.judge.specs.Verdicts.{verdict};
 
-use judge::{Answer, Refusal, line};
+use judge::{Reason, Refusal, line};
 
 // How low a threshold can be, and how high (RULES 5.7).
 const LEAST_THRESHOLD: usize = 50;
@@ -19,18 +19,15 @@ const DEFAULT_THRESHOLD: usize = 50;
 pub fn threshold(p: usize) -> usize
     ensures { result ≡ threshold p }
 {
-    if p == 0 {
-        return DEFAULT_THRESHOLD;
-    }
-    p
+    if p == 0 { DEFAULT_THRESHOLD } else { p }
 }
 
 // Check 16: the threshold is out of range (RULES 7.5).
-pub fn threshold_given(t: usize) -> Answer
+pub fn threshold_given(t: usize) -> Result<(), Refusal>
     ensures { verdict result ≡ asked (check16 t) }
 {
     line(
-        Refusal::THRESHOLD,
-        (t < LEAST_THRESHOLD) | (MOST_THRESHOLD < t),
+        Reason::Threshold,
+        !(LEAST_THRESHOLD..=MOST_THRESHOLD).contains(&t),
     )
 }

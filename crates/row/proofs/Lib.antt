@@ -1,2 +1,4 @@
 pub mod Laws
 pub mod AnswerLaws
+pub mod MeasuredLaws
+pub mod ValidRows

@@ -1,9 +1,11 @@
 // Renumbering a row.
 #![tactic(auto)]
 
+mod measured;
 mod numbers;
 mod renumbering;
 mod standard;
 
+pub use measured::Measured;
 pub use renumbering::{check_first, renumber};
-pub use standard::{measure, renumber_valid};
+pub use standard::renumber_valid;

@@ -5,7 +5,7 @@ ghost use Rattle.trees.specs.RowCalls.{renumber_checks, renumbering};
 ghost use Rattle.judge.specs.Verdicts.{verdict};
 
 use crate::standard::renumber_valid;
-use judge::Refusal;
+use judge::{Refusal, ValidRow};
 
 // Checks 1, 3 of both buffers and 5 to 10 of the first: the first that applies is the answer (RULES 7.2).
 pub fn check_first(n: usize, first: &[u16], second: &[u16]) -> Result<(), Refusal>
@@ -22,6 +22,6 @@ pub fn renumber(n: usize, row: &[u16], out: &mut [u16]) -> Result<(), Refusal>
     ensures out_after { out.new ≡ (renumbering n row.now out.old).words }
 {
     check_first(n, row, out)?;
-    renumber_valid(n, row, out);
+    renumber_valid(ValidRow { n, row }, out);
     Ok(())
 }

@@ -1,12 +1,9 @@
 // The header of a study (RULES 6.1, 6.2): its eight words by value, its limits, the width of a slot, and the capacity.
-ghost use Rattle.std.specs.Prelude.{◌≡◌, [], ◌++◌, ◌≤◌, length, take, drop};
+ghost use Rattle.std.specs.Prelude.{◌≡◌, [], ◌≤◌, length};
 ghost use Rattle.trees.specs.Checks.{most_samples};
 ghost use Rattle.runs.specs.Words.{header, samples, in_force, header_words, slot_words, encode, capacity};
-ghost use Rattle.runs.specs.Formed.{same_words, Formed};
+ghost use Rattle.runs.specs.Formed.{Formed};
 ghost use Rattle.runs.specs.Words.{full};
-
-use crate::moves::{clear, copy_in};
-use judge::wide;
 
 // Where the row stands in its slot, after the identifier (RULES 6.3).
 pub const ROW_OFFSET: usize = 1;
@@ -20,7 +17,7 @@ pub fn slot_words(n: usize) -> usize
 }
 
 // What a header says: n and k (RULES 6.2).
-#[derive(Clone, Copy)]
+#[derive(Clone, Copy, Debug, PartialEq, Eq)]
 pub struct Header {
     pub samples: u16,
     pub in_force: u16,
@@ -48,14 +45,8 @@ impl Header {
         requires { n ≤ most_samples }
         ensures { result ≡ capacity len n }
     {
-        if len < Header::WORDS {
-            return 0;
-        }
-        let room = (len - Header::WORDS) / slot_words(n);
-        if room < Header::MOST_RUNS {
-            return room;
-        }
-        Header::MOST_RUNS
+        let room = len.saturating_sub(Header::WORDS) / slot_words(n);
+        room.min(Header::MOST_RUNS)
     }
 
     // The header that words begin with, whatever their mark.
@@ -91,7 +82,7 @@ pub fn samples(words: &[u16]) -> usize
     requires { header_words ≤ length words.now }
     ensures { result ≡ samples words.now }
 {
-    wide(words[Header::SAMPLES_AT])
+    usize::from(words[Header::SAMPLES_AT])
 }
 
 // The number of runs in force.
@@ -99,38 +90,16 @@ pub fn in_force(words: &[u16]) -> usize
     requires { header_words ≤ length words.now }
     ensures { result ≡ in_force words.now }
 {
-    wide(words[Header::IN_FORCE_AT])
+    usize::from(words[Header::IN_FORCE_AT])
 }
 
 // Whether as many runs are in force as the study has room for.
+#[tactic(auto, using(runs::proofs::SlotLaws::formed_long))]
 pub fn is_full(words: &[u16]) -> bool
     requires { Formed words.now }
     ensures { result ≡ full words.now }
 {
     in_force(words) == Header::capacity(words.len(), samples(words))
-}
-
-// Whether the words begin with those of a header.
-pub fn starts_with(words: &[u16], head: [u16; Header::WORDS]) -> bool
-    requires { header_words ≤ length words.now }
-    ensures { result ≡ same_words (take header_words words.now) head }
-{
-    let mut i: usize = 0;
-    while i < Header::WORDS {
-        if words[i] != head[i] {
-            return false;
-        }
-        i += 1;
-    }
-    true
-}
-
-// The first words become those of a header.
-fn store(words: &mut [u16], head: [u16; Header::WORDS])
-    requires { header_words ≤ length words.old }
-    ensures { words.new ≡ head ++ drop header_words words.old }
-{
-    copy_in(words, 0, &head);
 }
 
 // The words become those of a study with no run in force.
@@ -142,6 +111,6 @@ pub fn start(words: &mut [u16], n: u16)
         samples: n,
         in_force: 0,
     };
-    store(words, head.words());
-    clear(words, Header::WORDS, words.len() - Header::WORDS);
+    words[..Header::WORDS].copy_from_slice(&head.words());
+    words[Header::WORDS..].fill(0);
 }

@@ -2,11 +2,9 @@
 #![tactic(auto)]
 
 mod header;
-mod moves;
 mod search;
 mod store;
 
-pub use header::{Header, ROW_OFFSET, in_force, is_full, samples, slot_words, start, starts_with};
-pub use moves::copy_in;
-pub use search::{Spot, find_slot, slot_row, slot_start};
+pub use header::{Header, ROW_OFFSET, in_force, is_full, samples, slot_words, start};
+pub use search::{find_slot, slot_row, slot_start};
 pub use store::{close_run, put_run};

@@ -3,7 +3,7 @@ ghost use Rattle.std.specs.Prelude.{◌≡◌, ◌+◌, ◌≤◌, length, drop}
 ghost use Rattle.trees.specs.Checks.{most_samples};
 ghost use Rattle.runs.specs.Words.{slot_words, slot_start, read_run, most_runs};
 ghost use Rattle.runs.specs.Formed.{Formed};
-ghost use Rattle.slots.specs.Slots.{Spotted};
+ghost use Rattle.slots.specs.Slots.{Found};
 
 use crate::header::{Header, ROW_OFFSET, in_force, samples, slot_words};
 
@@ -24,38 +24,22 @@ pub fn slot_row(words: &[u16], n: usize, p: usize) -> &[u16]
     &words[from..from + 2 * n]
 }
 
-// The slot in which an identifier stands, or, where it is not taken, the slot before which it would.
-#[derive(Clone, Copy)]
-pub struct Spot {
-    pub at: usize,
-    pub taken: bool,
-}
-
-// The spot of an identifier in a well-formed study.
-pub fn find_slot(words: &[u16], id: u16) -> Spot
+// The slot in which an identifier stands in a well-formed study, or, as an error, the slot before which it would.
+#[tactic(auto, using(runs::proofs::SlotLaws::formed_long))]
+pub fn find_slot(words: &[u16], id: u16) -> Result<usize, usize>
     requires { Formed words.now }
-    ensures { Spotted words.now id result.at result.taken }
+    ensures { Found words.now id result }
 {
-    let width = slot_words(samples(words));
+    let n = samples(words);
     let k = in_force(words);
-    let mut i: usize = 0;
-    let mut p = Header::WORDS;
-    while i < k {
-        let x = words[p];
+    for i in 0..k {
+        let x = words[slot_start(n, i)];
         if x == id {
-            return Spot { at: i, taken: true };
+            return Ok(i);
         }
         if id < x {
-            return Spot {
-                at: i,
-                taken: false,
-            };
+            return Err(i);
         }
-        i += 1;
-        p += width;
     }
-    Spot {
-        at: i,
-        taken: false,
-    }
+    Err(k)
 }

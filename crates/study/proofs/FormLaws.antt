@@ -7,9 +7,13 @@ use native.Mathlib.Nat.{add-zero}
 use native.Mathlib.Numerals.{add-one}
 use native.Mathlib.Omega.{arith}
 use lib.Dec.{ltb, leb}
-use lib.ListN.{length, get_or, take, drop, drop_of_length-le, length-drop}
-use lib.Seq.{drop-cons, get_or-drop, length-take-le}
-use borrow.Author.Tests.{leb-true, ne_eqb, not-true}
+use lib.ListN.{length, get_or, take, drop, length-drop}
+use lib.Seq.{get_or-drop, length-take-le}
+use Rattle.std.proofs.lemmas.Bool.Decides.{nat_tests}
+use borrow.Author.Tests.{leb-true, not-true}
+use Rattle.std.specs.List.{list_all, starts_with}
+use Rattle.std.specs.Cmp.Lexicographic.{pointwise}
+use lib.Dec.{eqb}
 use Rattle.trees.specs.Lists.{tabulate}
 use Rattle.trees.specs.Checks.{fewest_samples, most_samples, row_words, outside}
 use Rattle.trees.specs.Reporting.{Run}
@@ -22,20 +26,24 @@ use Rattle.runs.proofs.WordLaws.{capacity_short, capacity_most, capacity_room}
 use Rattle.runs.proofs.FormedLaws.{formed_to}
 use Rattle.study.specs.Scans.{sizes_fit, follows, stored_from}
 
--- ---- zeros to the end
+-- ---- the library's tests of lists
 
-module _ (w : List ℕ) (i : ℕ) where
-  pub zero_on : i < length w → get_or w i 0 ≡ 0 → zero_from i w ≡ zero_from (i + 1) w
-  unfolding every
-  zero_on h e = rw (add-one i, drop-cons w i 0 h, e)
+eqb_swap : (x y : ℕ) → eqb x y ≡ eqb y x
+eqb_swap x y = grind (arith, nat_tests)
 
-  pub zero_off : i < length w → (get_or w i 0 ≡ 0 → ⊥) → zero_from i w ≡ false
-  unfolding every
-  zero_off h e = rw (drop-cons w i 0 h, ne_eqb (get_or w i 0) 0 e)
+-- whether words begin with others
+pub starts_same : (xs ys : List ℕ) → pointwise eqb xs ys ≡ same_words ys xs
+unfolding same_words
+starts_same [] [] = refl
+starts_same [] (y ∷ ys) = refl
+starts_same (x ∷ xs) [] = refl
+starts_same (x ∷ xs) (y ∷ ys) = rw (eqb_swap x y, starts_same xs ys)
 
-  pub zero_end : length w ≤ i → zero_from i w ≡ true
-  unfolding every
-  zero_end h = rw (drop_of_length-le w h)
+-- whether all pass a test
+pub all_every : {A : Type 0} (t : A → Bool) (xs : List A) → list_all t xs ≡ every t xs
+unfolding every
+all_every t [] = refl
+all_every t (x ∷ xs) = rw (all_every t xs)
 
 -- ---- slot i of k, at word p
 
@@ -117,9 +125,14 @@ short_unformed w h = not_yes (well_formed w) (λ e. omega (arith, capacity_short
 
 -- the test is that of the header, of the sizes, of the slots and of the words after them
 pub formed_parts : (w head : List ℕ) (n k : ℕ) → n ≡ samples w → k ≡ in_force w → head ≡ header n k
-    → well_formed w ≡ same_words (take header_words w) head && sizes_fit (length w) n k && stored_from n 0 (tabulate k (run_at n w) 0) && zero_from (slot_start n k) w
+    → well_formed w ≡ starts_with eqb w head && sizes_fit (length w) n k && stored_from n 0 (tabulate k (run_at n w) 0)
+    && list_all (λ x. eqb x 0) (drop (slot_start n k) w)
 unfolding well_formed runs
-formed_parts w head n k a b c = rw (c, a, b) (assoc (headed w && sized w) _ _ _)
+formed_parts w head n k a b c =
+    let e : head ≡ header (samples w) (in_force w) = c ∙ ap (λ (i : ℕ). header i k) a ∙ ap (header (samples w)) b in
+    let e₁ : starts_with eqb w head ≡ headed w = rw e (starts_same (header (samples w) (in_force w)) (take header_words w)) in
+    let e₂ : list_all (λ x. eqb x 0) (drop (slot_start n k) w) ≡ zero_from (slot_start n k) w = all_every (λ x. eqb x 0) (drop (slot_start n k) w) in
+    rw (e₁, e₂, a, b) (assoc (headed w && sized w) _ _ _)
   where
     assoc : (p q r z : Bool) → p && q && r && z ≡ p && (q && r) && z
     assoc true q r z = refl

@@ -1,6 +1,5 @@
 // Opening, adding and withdrawing. The inner calls ask for a well-formed study and do not look it over again.
 ghost use Rattle.std.specs.Prelude.{◌≡◌};
-ghost use Rattle.trees.specs.Valid.{Valid};
 ghost use Rattle.runs.specs.Words.{samples};
 ghost use Rattle.runs.specs.Formed.{Formed};
 ghost use Rattle.runs.specs.Calls.{opened, added, withdrawn};
@@ -11,93 +10,68 @@ use crate::checks::{
     identifier_free, identifier_given, identifier_in_force, room_given, room_left, run_given,
     study_given,
 };
-use judge::Answer;
-use slots::{close_run, find_slot, put_run, samples, start};
+use judge::{Refusal, ValidRow};
+use slots::{close_run, put_run, samples, start};
 
 // Opening a study over n samples, in words of any content (RULES 6.8).
-pub fn open(n: usize, words: &mut [u16]) -> Answer
+pub fn open(n: usize, words: &mut [u16]) -> Result<(), Refusal>
     ensures answer { verdict result ≡ (opened n words.old).verdict }
     ensures words { words.new ≡ (opened n words.old).words }
 {
-    let a = room_given(n, words);
-    let Answer::Accepted = a else {
-        return a;
-    };
+    room_given(n, words)?;
     start(words, n as u16);
-    Answer::Accepted
+    Ok(())
 }
 
 // Adding a run whose row is valid: checks 11 and 12 (RULES 7.5), and the run stored.
-fn add_valid(words: &mut [u16], id: u16, row: &[u16]) -> Answer
-    requires { Formed words.old × Valid (samples words.old) row.now }
-    ensures answer { verdict result ≡ (added_valid words.old id row.now).verdict }
-    ensures words { words.new ≡ (added_valid words.old id row.now).words }
+fn add_valid(words: &mut [u16], id: u16, tree: ValidRow) -> Result<(), Refusal>
+    requires { Formed words.old × (tree.n ≡ samples words.old) }
+    ensures answer { verdict result ≡ (added_valid words.old id tree.entry.row.now).verdict }
+    ensures words { words.new ≡ (added_valid words.old id tree.entry.row.now).words }
 {
-    let spot = find_slot(words, id);
-    let free = identifier_free(spot);
-    let Answer::Accepted = free else {
-        return free;
-    };
-    let room = room_left(words);
-    let Answer::Accepted = room else {
-        return room;
-    };
-    put_run(words, spot.at, id, row);
-    Answer::Accepted
+    let at = identifier_free(words, id)?;
+    room_left(words)?;
+    put_run(words, at, id, tree);
+    Ok(())
 }
 
 // Adding a run to a study that is known to be well formed.
-pub fn add_formed(words: &mut [u16], id: u16, row: &[u16]) -> Answer
+pub fn add_formed(words: &mut [u16], id: u16, row: &[u16]) -> Result<(), Refusal>
     requires { Formed words.old }
     ensures answer { verdict result ≡ (added words.old id row.now).verdict }
     ensures words { words.new ≡ (added words.old id row.now).words }
 {
-    let a = run_given(samples(words), id, row);
-    let Answer::Accepted = a else {
-        return a;
-    };
-    add_valid(words, id, row)
+    let n = samples(words);
+    run_given(n, id, row)?;
+    add_valid(words, id, ValidRow { n, row })
 }
 
 // Withdrawing a run from a study that is known to be well formed.
-pub fn withdraw_formed(words: &mut [u16], id: u16) -> Answer
+pub fn withdraw_formed(words: &mut [u16], id: u16) -> Result<(), Refusal>
     requires { Formed words.old }
     ensures answer { verdict result ≡ (withdrawn words.old id).verdict }
     ensures words { words.new ≡ (withdrawn words.old id).words }
 {
-    let a = identifier_given(id);
-    let Answer::Accepted = a else {
-        return a;
-    };
-    let spot = find_slot(words, id);
-    let a = identifier_in_force(spot);
-    let Answer::Accepted = a else {
-        return a;
-    };
-    close_run(words, spot.at);
-    Answer::Accepted
+    identifier_given(id)?;
+    let at = identifier_in_force(words, id)?;
+    close_run(words, at);
+    Ok(())
 }
 
 // Adding a run.
-pub fn add(words: &mut [u16], id: u16, row: &[u16]) -> Answer
+pub fn add(words: &mut [u16], id: u16, row: &[u16]) -> Result<(), Refusal>
     ensures answer { verdict result ≡ (added words.old id row.now).verdict }
     ensures words { words.new ≡ (added words.old id row.now).words }
 {
-    let a = study_given(words);
-    let Answer::Accepted = a else {
-        return a;
-    };
+    study_given(words)?;
     add_formed(words, id, row)
 }
 
 // Withdrawing a run.
-pub fn withdraw(words: &mut [u16], id: u16) -> Answer
+pub fn withdraw(words: &mut [u16], id: u16) -> Result<(), Refusal>
     ensures answer { verdict result ≡ (withdrawn words.old id).verdict }
     ensures words { words.new ≡ (withdrawn words.old id).words }
 {
-    let a = study_given(words);
-    let Answer::Accepted = a else {
-        return a;
-    };
+    study_given(words)?;
     withdraw_formed(words, id)
 }

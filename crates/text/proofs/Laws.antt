@@ -44,8 +44,7 @@ module _ {text out₀ out : List ℕ} {at at₀ : ℕ} (t : ℕ → Bool) (s n :
   pub passing_end : n ≤ s → Put text out₀ at₀ out at
   passing_end h = fields_end (rw (filter_end t s n h) at l)
 
--- Of `count` fields of at most `most` bytes each i are passed, and what is left puts the whole.
-pub record FieldsLeft (most count i : ℕ) (rest out : List ℕ) (next : ℕ) (text out₀ : List ℕ) (at : ℕ) : Type 0 where
-  pub passed : i ≤ count
+-- Of fields of at most `most` bytes each i are passed, and what is left puts the whole.
+pub record FieldsLeft (most i : ℕ) (rest out : List ℕ) (next : ℕ) (text out₀ : List ℕ) (at : ℕ) : Type 0 where
   pub room : next ≤ at + most * i
   pub left : Left rest out next text out₀ at

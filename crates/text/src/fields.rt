@@ -23,10 +23,8 @@ pub fn put_fields(fields: &[usize], out: &mut [u8], at: usize) -> usize
     ensures upper_bound { result ≤ at + field_bytes * length fields.now }
 {
     let mut next = at;
-    let mut i: usize = 0;
-    while i < fields.len() {
-        next = put_field(fields[i], out, next);
-        i += 1;
+    for field in fields {
+        next = put_field(*field, out, next);
     }
     next
 }

@@ -27,7 +27,7 @@ pub fn put_head(n: usize, k: usize, out: &mut [u8]) -> usize
     requires { line_bytes ≤ length out.old }
     ensures { Written (head_line n k) out.old out.new result }
 {
-    let fields = [VERSION as usize, n, k];
+    let fields = [usize::from(VERSION), n, k];
     put_line(b"ARB", &fields, out)
 }
 

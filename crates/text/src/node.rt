@@ -3,7 +3,6 @@ ghost use Rattle.std.specs.Prelude.{◌≡◌, false, [], ◌∷◌, ◌++◌, m
 ghost use Rattle.trees.specs.Lists.{range, filter};
 ghost use Rattle.trees.specs.Rows.{nodes, parent, group_at};
 ghost use Rattle.trees.specs.Checks.{row_words, most_samples};
-ghost use Rattle.trees.specs.Valid.{Standard};
 ghost use Rattle.ascii.specs.Decimal.{decimal};
 ghost use Rattle.text.specs.Lines.{space, spaced, parent_field, samples_of, node_line};
 ghost use Rattle.text.specs.Marks.{Marked, parent_marked, mark_count};
@@ -11,32 +10,22 @@ ghost use Rattle.put.specs.Writing.{Put, Written};
 ghost use Rattle.text.specs.Room.{field_bytes, sample_bytes, line_bytes};
 
 use crate::fields::put_field;
-use judge::{ROOT_MARK, nodes, parent, wide};
+use judge::{ROOT_MARK, StandardRow, nodes, parent};
 use put::{put_byte, put_bytes, put_number};
 
 // A mark for each node: there are fewer than twice 512.
 const MARKS: usize = 1024;
 
-// No node is marked.
-fn unmarked() -> [bool; MARKS]
-    ensures { result ≡ replicate mark_count false }
-{
-    [false; MARKS]
-}
-
 // Marks the inner nodes at or below v: v, and each later one whose parent is marked.
-fn marks_below(n: usize, row: &[u16], v: usize) -> [bool; MARKS]
-    requires { Standard n row.now × (n ≤ v) × (v < nodes row.now) }
-    ensures { Marked n row.now v (nodes row.now) result }
+#[tactic(auto, using(crate::proofs::StandardRows::standard_long, crate::proofs::StandardRows::standard_few))]
+fn marks_below(tree: StandardRow, v: usize) -> [bool; MARKS]
+    requires { (tree.n ≤ v) × (v < nodes tree.row.now) }
+    ensures { Marked tree.entry.n tree.entry.row.now v (nodes tree.entry.row.now) result }
 {
-    let m = nodes(row);
-    let mut marks = unmarked();
+    let mut marks = [false; MARKS];
     marks[v] = true;
-    let mut u = v + 1;
-    while u < m {
-        let p = parent(row, u);
-        marks[u] = marks[p];
-        u += 1;
+    for u in v + 1..nodes(tree.row) {
+        marks[u] = marks[parent(tree.row, u)];
     }
     marks
 }
@@ -61,13 +50,14 @@ fn put_samples(n: usize, row: &[u16], marks: &[bool; MARKS], out: &mut [u8], at:
 }
 
 // The samples of inner node v, a space before each.
-fn put_group(n: usize, row: &[u16], v: usize, out: &mut [u8], at: usize) -> usize
-    requires { Standard n row.now × (n ≤ v) × (v < nodes row.now) × (at + sample_bytes * n ≤ length out.old) }
-    ensures put { Put (spaced (map decimal (samples_of n (group_at n row.now v)))) out.old at out.new result }
-    ensures upper_bound { result ≤ at + sample_bytes * n }
+fn put_group(tree: StandardRow, v: usize, out: &mut [u8], at: usize) -> usize
+    requires { (tree.n ≤ v) × (v < nodes tree.row.now) × (at + sample_bytes * tree.n ≤ length out.old) }
+    ensures put { Put (spaced (map decimal (samples_of tree.entry.n (group_at tree.entry.n tree.entry.row.now v))))
+        out.old at out.new result }
+    ensures upper_bound { result ≤ at + sample_bytes * tree.entry.n }
 {
-    let marks = marks_below(n, row, v);
-    put_samples(n, row, &marks, out, at)
+    let marks = marks_below(tree, v);
+    put_samples(tree.n, tree.row, &marks, out, at)
 }
 
 // A space and the parent of a node, or `-` if it is the root (RULES 9.5).
@@ -94,11 +84,12 @@ fn put_front(v: usize, p: usize, support: usize, out: &mut [u8]) -> usize
 }
 
 // The line of inner node v: its number, its parent, its support and its samples (RULES 9.5).
-pub fn put_node(n: usize, row: &[u16], support: &[u16], v: usize, out: &mut [u8]) -> usize
-    requires { Standard n row.now × (length support.now ≡ row_words n) × (n ≤ v) × (v < nodes row.now) × (line_bytes ≤ length out.old) }
-    ensures { Written (node_line n row.now support.now v) out.old out.new result }
+#[tactic(auto, using(crate::proofs::StandardRows::standard_long, crate::proofs::StandardRows::standard_high, crate::proofs::StandardRows::standard_most))]
+pub fn put_node(tree: StandardRow, support: &[u16], v: usize, out: &mut [u8]) -> usize
+    requires { (length support.now ≡ row_words tree.n) × (tree.n ≤ v) × (v < nodes tree.row.now) × (line_bytes ≤ length out.old) }
+    ensures { Written (node_line tree.entry.n tree.entry.row.now support.now v) out.old out.new result }
 {
-    let front = put_front(v, parent(row, v), wide(support[v + 1]), out);
-    let end = put_group(n, row, v, out, front);
+    let front = put_front(v, parent(tree.row, v), usize::from(support[v + 1]), out);
+    let end = put_group(tree, v, out, front);
     put_byte(b'\n', out, end)
 }

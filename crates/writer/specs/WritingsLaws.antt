@@ -1,19 +1,18 @@
 -- Two answers of writing with one verdict are the same; a refusal leaves the text, after an acceptance the rest decides. Assumes nothing.
-use Rattle.std.specs.Prelude.{ℕ, ◌≤◌, ◌<◌, ◌≡◌, refl, List, [], ◌∷◌, ◌++◌, length, drop}
-use Rattle.std.proofs.Common.{◌∙◌, lt-ltb, le-ltb}
+use Rattle.std.specs.Prelude.{ℕ, ◌≤◌, ◌<◌, ◌≡◌, refl, List, [], ◌∷◌, ◌++◌, length, drop, Ok, Err}
+use Rattle.std.proofs.Common.{ap, ◌∙◌, lt-ltb, le-ltb}
 use Rattle.trees.specs.Checks.{Verdict, accepted, refused, wrote, Check, ◌⊳◌, check1, row_checks}
 use Rattle.trees.proofs.ChainLaws.{chain_append, chain_given, given_chain, chain_passed, passed_chain, accepted_other}
 use Rattle.newick.specs.RowText.{Wanted, check3_wanted, check_room, written, write_checks, writing}
-use Rattle.writer.specs.declared.calls.Written.{Written}
-use Rattle.writer.specs.declared.calls.Written.TheVariants.{Length, Refused}
-use Rattle.writer.specs.Writings.{written_verdict}
+use Rattle.judge.specs.VerdictLaws.{refusal_injective}
+use Rattle.writer.specs.Writings.{Written, written_verdict}
 use Rattle.writer.specs.Remaining.{outcome_of, room_outcome}
 
 pub written_injective : (a b : Written) → written_verdict a ≡ written_verdict b → a ≡ b
-written_injective (Length k) (Length j) e = cc
-written_injective (Length k) (Refused j q) e = cc
-written_injective (Refused k p) (Length j) e = cc
-written_injective (Refused k p) (Refused j q) e = cc
+written_injective (Ok k) (Ok j) e = cc
+written_injective (Ok k) (Err s) e = cc
+written_injective (Err r) (Ok j) e = cc
+written_injective (Err r) (Err s) e = ap Err (refusal_injective r s e)
 
 -- ---- checks that come first
 

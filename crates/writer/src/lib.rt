@@ -5,5 +5,5 @@ mod calls;
 mod lengths;
 mod texts;
 
-pub use calls::{Written, write_newick, write_newick_supports};
+pub use calls::{write_newick, write_newick_supports};
 pub use lengths::text_length;

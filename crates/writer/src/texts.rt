@@ -1,6 +1,5 @@
-// Putting the text of a row, by recursion over its nodes, whose children stand as chains in two tables.
+// Putting the text of a row, by recursion over its nodes, whose children stand in chains.
 ghost use Rattle.std.specs.Prelude.{◌≡◌, ◌+◌, ◌≤◌, length};
-ghost use Rattle.trees.specs.Valid.{Valid};
 ghost use Rattle.put.specs.Writing.{Put};
 ghost use Rattle.newick.specs.RowText.{root_of};
 ghost use Rattle.chains.specs.Kids.{Kids};
@@ -8,9 +7,9 @@ ghost use Rattle.writer.specs.Lengths.{wanted_by, text_of};
 ghost use Rattle.writer.specs.Nesting.{behind, table_text};
 ghost use Rattle.writer.specs.Putting.{Supports, HasWord, Charted};
 
-use chains::children_chained;
-use judge::{ROOT_MARK, nodes, parent, wide};
-use passes::{TABLE, Table};
+use chains::Chains;
+use judge::{ROOT_MARK, ValidRow, nodes, parent};
+use passes::TABLE;
 use put::{put_byte, put_number};
 
 // What stands behind child c: behind an inner node's closing bracket its word, if words are wanted.
@@ -22,34 +21,33 @@ fn put_mark(n: usize, words: &[u16], c: usize, out: &mut [u8], at: usize) -> usi
     if (c < n) | (words.len() == 0) {
         return at;
     }
-    put_number(wide(words[c + 1]), out, at)
+    put_number(usize::from(words[c + 1]), out, at)
 }
 
 // The text of node v but for what stands behind it: below v at most `left` brackets stand in one another.
 fn put_text(
     n: usize,
-    head: &Table,
-    next: &Table,
+    chains: &Chains,
     words: &[u16],
     v: usize,
     left: usize,
     out: &mut [u8],
     at: usize,
 ) -> usize
-    requires { Charted n head.now next.now v × Supports n words.now
-        × (at + length (table_text head.now next.now left n words.now v) ≤ length out.old) }
-    ensures { Put (table_text head.now next.now left n words.now v)
+    requires { Charted n chains.now.head chains.now.next v × Supports n words.now
+        × (at + length (table_text chains.now.head chains.now.next left n words.now v) ≤ length out.old) }
+    ensures { Put (table_text chains.now.head chains.now.next left n words.now v)
         out.old at out.new result }
 {
     if (left == 0) | (v < n) {
         return put_number(v, out, at);
     }
     let mut e = put_byte(b'(', out, at);
-    let mut c = wide(head[v]);
+    let mut c = usize::from(chains.head[v]);
     loop {
-        e = put_text(n, head, next, words, c, left - 1, out, e);
+        e = put_text(n, chains, words, c, left - 1, out, e);
         e = put_mark(n, words, c, out, e);
-        c = wide(next[c]);
+        c = usize::from(chains.next[c]);
         if c == 0 {
             return put_byte(b')', out, e);
         }
@@ -58,42 +56,39 @@ fn put_text(
 }
 
 // The root of a valid row.
-fn root(n: usize, row: &[u16]) -> usize
-    requires { Valid n row.now }
-    ensures { result ≡ root_of n row.now }
+#[tactic(auto, using(row::proofs::ValidRows::valid_long))]
+fn root(tree: ValidRow) -> usize
+    ensures { result ≡ root_of tree.entry.n tree.entry.row.now }
 {
-    let mut v = n;
-    while parent(row, v) != ROOT_MARK {
-        v += 1;
+    for v in tree.n..nodes(tree.row) {
+        if parent(tree.row, v) == ROOT_MARK {
+            return v;
+        }
     }
-    v
+    unreachable!()
 }
 
 // The text of a valid row whose children stand in the tables.
-fn put_whole(
-    n: usize,
-    row: &[u16],
-    head: &Table,
-    next: &Table,
-    words: &[u16],
-    out: &mut [u8],
-) -> usize
-    requires { Valid n row.now × Kids n row.now head.now next.now × Supports n words.now
-        × (length (text_of n row.now words.now) ≤ length out.old) }
-    ensures { Put (text_of n row.now words.now) out.old 0 out.new result }
+#[tactic(auto, using(row::proofs::ValidRows::valid_long))]
+fn put_whole(tree: ValidRow, chains: &Chains, words: &[u16], out: &mut [u8]) -> usize
+    requires { Kids tree.n tree.row.now chains.now.head chains.now.next × Supports tree.n words.now
+        × (length (text_of tree.n tree.row.now words.now) ≤ length out.old) }
+    ensures { Put (text_of tree.entry.n tree.entry.row.now words.now) out.old 0 out.new result }
 {
-    let end = put_text(n, head, next, words, root(n, row), nodes(row), out, 0);
+    let end = put_text(tree.n, chains, words, root(tree), nodes(tree.row), out, 0);
     put_byte(b';', out, end)
 }
 
 // The text of a valid row, put at the front.
-pub fn put_row(n: usize, row: &[u16], words: &[u16], out: &mut [u8]) -> usize
-    requires { Valid n row.now × Supports n words.now
-        × (length (text_of n row.now words.now) ≤ length out.old) }
-    ensures { Put (text_of n row.now words.now) out.old 0 out.new result }
+pub fn put_row(tree: ValidRow, words: &[u16], out: &mut [u8]) -> usize
+    requires { Supports tree.n words.now
+        × (length (text_of tree.n tree.row.now words.now) ≤ length out.old) }
+    ensures { Put (text_of tree.entry.n tree.entry.row.now words.now) out.old 0 out.new result }
 {
-    let mut head: Table = [0; TABLE];
-    let mut next: Table = [0; TABLE];
-    children_chained(n, row, &mut head, &mut next);
-    put_whole(n, row, &head, &next, words, out)
+    let mut chains = Chains {
+        head: [0; TABLE],
+        next: [0; TABLE],
+    };
+    chains.fill(tree);
+    put_whole(tree, &chains, words, out)
 }

@@ -1,31 +1,22 @@
 -- `candidates::take_in` is one round, after which the candidates come from the spare buffer. Assumes nothing.
-use mathlib.Core.Path.{refl}
-use Rattle.count.specs.StudyLaws.{study_most, study_few, study_room}
-use Rattle.candidates.specs.CandidateLaws.{run_standard, take_ready, take_room, take_step}
-use native.Mathlib.Omega.{arith}
+use Rattle.count.specs.StudyLaws.{held_study}
+use Rattle.candidates.specs.CandidateLaws.{take_ready, take_room, take_step}
 use Rattle.candidates.proofs.take_in.Goals as goal
-
-pub run_row-run-requires : goal.run_row-run-requires
-run_row-run-requires c =
-    let s = c.requires.0 in
-    (study_most _ _ _ s, omega (arith, c.requires.1, study_few _ _ _ s), study_room _ _ _ s c.args.i c.requires.1)
 
 pub round-requires : goal.round-requires
 round-requires c =
     let a = c.args in
-    let is = c.run_row-run.ensures in (
-      run_standard a.words.now a.n a.k c.requires.0 a.i c.requires.1 _ _ _ c.requires.2 is,
-      take_ready a.words.now a.n a.k c.requires.0 a.i c.requires.1 _ _ _ c.requires.2 is,
-      take_room a.words.now a.n a.k c.requires.0 a.i c.requires.1 _ _ _ c.requires.2 is,
+    let s = a.study in
+    let is = c.run_row.ensures.row in (
+      c.run_row.ensures.standard,
+      take_ready s.words.now s.n s.k (held_study s) a.i c.requires.0 _ _ _ c.requires.1 is,
+      take_room s.words.now s.n s.k (held_study s) a.i c.requires.0 _ _ _ c.requires.1 is,
       c.requires.3,
-      refl,
-      c.requires.5,
     )
 
 pub returns : goal.returns
 returns c =
-    let a = c.args in (
-      rw c.copy.ensures (take_step a.words.now a.n a.k c.requires.0 a.i c.requires.1 _ _ _ c.requires.2
-          c.run_row-run.ensures _ _ c.round.ensures.0),
-      c.round.ensures.1,
-    )
+    let a = c.args in
+    let s = a.study in
+    rw c.copy_from_slice.ensures.after (take_step s.words.now s.n s.k (held_study s) a.i c.requires.0 _ _ _ c.requires.1
+    c.run_row.ensures.row _ _ c.round.ensures)

@@ -1,24 +1,15 @@
 -- `conflict::reaches`: the places of the row's nodes, their paths, and the pass. Assumes nothing.
-use Prim.Native.Nat.{ℕ}
-use mathlib.Core.Path.{refl}
-use lib.ListN.{length-replicate}
-use Rattle.trees.specs.Tables.{table_words}
+
 use Rattle.trees.proofs.FallsLaws.{standard_falls}
 use Rattle.trees.proofs.PlaceLaws.{place_keys}
 use Rattle.conflict.specs.GatherLaws.{gauged_reached}
 use Rattle.conflict.proofs.reaches.Goals as goal
 
-pub spread-requires : goal.spread-requires
-spread-requires c = (
-  standard_falls _ _ c.requires.2,
-  place_keys _ _ (standard_falls _ _ c.requires.0) c.args.start.now c.requires.1,
-  length-replicate {A = ℕ} table_words 0,
-  length-replicate {A = ℕ} table_words 0,
-)
+pub spread-ends-requires : goal.spread-ends-requires
+spread-ends-requires c = (standard_falls _ _ c.requires.2, place_keys _ _ (standard_falls _ _ c.requires.0) c.args.start.now c.requires.1)
 
-pub paths-requires : goal.paths-requires
-paths-requires c = (standard_falls _ _ c.requires.2, length-replicate {A = ℕ} table_words 0, refl)
+pub of-trails-requires : goal.of-trails-requires
+of-trails-requires c = standard_falls _ _ c.requires.2
 
 pub returns : goal.returns
-returns c =
-    gauged_reached _ _ _ c.args.start.now _ _ _ _ _ c.spread.ensures.0 c.spread.ensures.1 c.gather.ensures
+returns c = gauged_reached _ _ _ c.args.start.now _ _ _ c.spread-ends.ensures.0 c.spread-ends.ensures.1 c.gather.ensures

@@ -1,29 +1,14 @@
 -- `conflict::sides` marks both by what is reached. Assumes nothing.
-use native.Mathlib.Omega.{arith}
-use Rattle.trees.proofs.FallsLaws.{standard_falls, few}
-use Rattle.conflict.specs.GatherLaws.{reached_low, reached_agrees, reached_holds}
+use Rattle.std.proofs.Common.{rules}
+use Rattle.conflict.specs.GatherLaws.{reached_agrees, reached_holds}
 use Rattle.conflict.proofs.sides.Goals as goal
 
-pub mark_held-requires : goal.mark_held-requires
-mark_held-requires c =
-    let e = c.nodes-m.ensures in (
-      omega (arith, e, c.requires.0.valid.low),
-      omega (arith, e, few _ _ (standard_falls _ _ c.requires.0)),
-      rw e (reached_low _ _ _ c.args.start.now _ _ _ c.requires.3 c.reaches.ensures),
-      c.requires.5,
-    )
+pub returns-clause-flags : goal.returns-clause-flags
+returns-clause-flags c =
+    reached_holds _ _ _ c.requires.0 c.requires.2 _ c.args.chart.now.start _ c.requires.1.ranked.sizes c.requires.1.starts
+    c.reaches.ensures _ c.nodes-m.ensures _ _ c.requires.3 (record { is = λ v a h. (let p = c.mark.ensures v a h in search rules) })
 
-pub returns : goal.returns
-returns c =
-    record {
-      flags = (
-        reached_holds _ _ _ c.requires.0 c.requires.3 _ c.args.start.now _ _ _ c.requires.1 c.requires.2 c.reaches.ensures _
-            c.nodes-m.ensures _ _ c.requires.4 c.mark_held.ensures.0,
-        c.mark_held.ensures.1,
-      );
-      flags_2 = (
-        reached_agrees _ _ _ c.requires.0 c.requires.3 _ c.args.start.now _ _ _ c.requires.1 c.requires.2 c.reaches.ensures _
-            c.nodes-m.ensures _ c.mark_agrees.ensures.0,
-        c.mark_agrees.ensures.1,
-      );
-    }
+pub returns-clause-flags_2 : goal.returns-clause-flags_2
+returns-clause-flags_2 c =
+    reached_agrees _ _ _ c.requires.0 c.requires.2 _ c.args.chart.now.start _ c.requires.1.ranked.sizes c.requires.1.starts
+    c.reaches.ensures _ c.nodes-m.ensures _ (record { is = λ v a h. (let p = c.mark-2.ensures v a h in search rules) })

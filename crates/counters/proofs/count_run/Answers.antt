@@ -9,10 +9,10 @@ pub sweep-requires : goal.sweep-requires
 sweep-requires c =
     let q = c.requires.0 in
     let e = c.nodes.ensures in
-    (omega (arith, e, q.valid.low), omega (arith, e, few _ _ (standard_falls _ _ q)), c.requires.5, c.requires.6, rw e c.requires.7)
+    (omega (arith, e, q.valid.low), omega (arith, e, few _ _ (standard_falls _ _ q)), rw e c.requires.4)
 
 pub returns : goal.returns
 returns c =
     let a = c.args in
-    turned_run a.n weight a.candidates.now a.row.now a.counter.now _ _ _ _ _ c.nodes.ensures c.sides.ensures.flags.0
-    c.sides.ensures.flags_2.0 c.sweep.ensures
+    turned_run a.n weight a.candidates.now a.row.now a.counter.now _ _ _ _ _ c.nodes.ensures c.sides.ensures.flags
+    c.sides.ensures.flags_2 c.sweep.ensures

@@ -1,9 +1,5 @@
 -- `counters::sweep` turns the counters node by node, and flags those that are not 0. Assumes nothing.
-use Prim.Native.Nat.{ℕ}
-use mathlib.Core.Path.{◌≡◌, ap, ◌∙◌}
-use lib.Dec.{ltb}
-use lib.ListN.{length-set}
-use native.Mathlib.Omega.{arith}
+use Rattle.std.proofs.Common.{◌≡◌, ℕ, ap, ◌∙◌, ltb, arith}
 use Rattle.trees.specs.Merging.{flagged}
 use Rattle.trees.proofs.TableLaws.{flags_none, flags_more, remade_start, remade_more}
 use Rattle.counters.specs.Rounds.{turned, turned_in, weight}
@@ -12,12 +8,12 @@ use Rattle.counters.proofs.sweep.Goals as goal
 pub loop-v-init : goal.loop-v-init
 loop-v-init c =
     let f : ℕ → ℕ = turned_in weight c.args.held.now c.args.agrees.now c.args.counter.now in
-    (c.requires.0, c.requires.3, remade_start f c.args.n c.args.m _ c.requires.2, flags_none (λ u. ltb 0 (f u)) c.args.n _)
+    (remade_start f c.args.n c.args.m _ (omega arith), flags_none (λ u. ltb 0 (f u)) c.args.n _)
 
 pub turned-c-requires : goal.turned-c-requires
 turned-c-requires c =
-    let i = c.loop-v.invariant.2 in
-    omega (arith, i.rest.is c.loop-v.v (omega arith) (omega arith), c.requires.4.fits c.loop-v.v i.low (omega arith))
+    let i = c.loop-v.invariant.0 in
+    omega (arith, i.rest.is c.loop-v.v (omega arith) (omega arith), c.requires.2.fits c.loop-v.v i.low (omega arith))
 
 pub loop-v-preserved : goal.loop-v-preserved
 loop-v-preserved c =
@@ -28,20 +24,12 @@ loop-v-preserved c =
     let v : ℕ = c.loop-v.v in
     let x : ℕ = c.turned-c.result in
     let e : x ≡ f v = c.turned-c.ensures ∙ ap (turned weight (flagged held v) (flagged agrees v))
-    (c.loop-v.invariant.2.rest.is v (omega arith) (omega arith)) in (
-      omega arith,
-      simp length-set c.loop-v.invariant.1,
-      remade_more f old c.args.n c.args.m v x c.loop-v.counter (omega arith) c.requires.1 e c.loop-v.invariant.2,
-      flags_more (λ u. ltb 0 (f u)) c.args.n v (ltb 0 x) c.loop-v.keep c.loop-v.invariant.3
-          (omega (arith, c.loop-v.invariant.1, c.requires.1)) (ap (ltb 0) e),
+    (c.loop-v.invariant.0.rest.is v (omega arith) (omega arith)) in (
+      remade_more f old c.args.n c.args.m v x c.loop-v.counter (omega arith) c.requires.1 e c.loop-v.invariant.0,
+      flags_more (λ u. ltb 0 (f u)) c.args.n v (ltb 0 x) c.loop-v.keep c.loop-v.invariant.1 (omega arith) (ap (ltb 0) e),
     )
 
 pub returns : goal.returns
 returns c =
     let e : c.loop-v.v ≡ c.args.m = omega arith in
-    record {
-      words = c.loop-v.invariant.2.long;
-      flags = c.loop-v.invariant.1;
-      counts = rw e at c.loop-v.invariant.2.done;
-      kept = rw e at c.loop-v.invariant.3;
-    }
+    record { counts = rw e at c.loop-v.invariant.0.done; kept = rw e at c.loop-v.invariant.1 }

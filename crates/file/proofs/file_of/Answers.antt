@@ -26,4 +26,4 @@ pub returns : goal.returns
 unfolding file_of
 returns c =
     let good = sym c.is_bad.ensures ∙ c.if-is_bad.false in
-    rw (good, c.wide.ensures.0, c.word_at.ensures, c.wide-2.ensures.0, c.word_at-2.ensures) refl
+    rw (good, c.from.ensures, c.word_at.ensures, c.from-2.ensures, c.word_at-2.ensures) refl

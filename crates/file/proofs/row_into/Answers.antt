@@ -15,7 +15,7 @@ use Rattle.file.proofs.row_into.Goals as goal
 room : (c : In-loop-i) → let a = c.args in
     (c.file_bytes-at.result + 2 + 2 * row_words a.n ≤ length a.bytes.now) × (length c.loop-i.row ≡ row_words a.n)
 room c = let a = c.args in
-    (omega (arith, bytes_next a.n a.j), c.loop-i.invariant.1.long ∙ length_slot a.bytes.now a.n a.j)
+    (omega (arith, bytes_next a.n a.j), c.loop-i.invariant.long ∙ length_slot a.bytes.now a.n a.j)
 
 pub file_bytes-at-requires : goal.file_bytes-at-requires
 file_bytes-at-requires c = let a = c.args in slot_fits a.n a.j (length a.bytes.now) (search rules) (search rules)
@@ -24,41 +24,24 @@ pub overflow_add-at : goal.overflow_add-at
 overflow_add-at c = let a = c.args in omega (arith, bytes_next a.n a.j)
 
 pub loop-i-init : goal.loop-i-init
-loop-i-init c = let a = c.args in (search rules, filled_start (omega (arith, length_slot a.bytes.now a.n a.j)))
-
-pub overflow_mul-i : goal.overflow_mul-i
-overflow_mul-i c = omega (arith, room c)
+loop-i-init c = let a = c.args in filled_start (omega (arith, length_slot a.bytes.now a.n a.j))
 
 pub overflow_add-at-in-loop-i : goal.overflow_add-at-in-loop-i
-overflow_add-at-in-loop-i c = omega (arith, room c)
+overflow_add-at-in-loop-i c = omega (arith, room (goal.at.overflow_add-at-in-loop-i c).In-loop-i)
 
 pub word_at-requires : goal.word_at-requires
-word_at-requires c = omega (arith, room c)
-
-pub offset_bounds-row-i : goal.offset_bounds-row-i
-offset_bounds-row-i c = omega (arith, room (goal.at.offset_bounds-row-i c).In-loop-i)
-
-pub bounds-row-i : goal.bounds-row-i
-bounds-row-i c = omega (arith, room (goal.at.bounds-row-i c).In-loop-i)
-
-pub overflow_add-i : goal.overflow_add-i
-overflow_add-i c = omega (arith, room (goal.at.overflow_add-i c).In-loop-i)
-
-pub loop-i-smaller : goal.loop-i-smaller
-loop-i-smaller c = omega (arith, room (goal.at.loop-i-smaller c).In-loop-i)
+word_at-requires c = omega (arith, room (goal.at.word_at-requires c).In-loop-i)
 
 pub loop-i-preserved : goal.loop-i-preserved
 loop-i-preserved c =
-    let l = c.loop-i in (
-      omega (arith, room (goal.at.loop-i-preserved c).In-loop-i),
-      filled_next (slot_row c.args.bytes.now c.args.n c.args.j) l.row l.i l.invariant.1 c.word_at.result
-          (omega (arith, length_slot c.args.bytes.now c.args.n c.args.j))
-          (c.word_at.ensures ∙ rw c.file_bytes-at.ensures
-          (sym (slot_word c.args.bytes.now c.args.n c.args.j l.i (omega (arith, room (goal.at.loop-i-preserved c).In-loop-i))))),
-    )
+    let l = c.loop-i in
+    filled_next (slot_row c.args.bytes.now c.args.n c.args.j) l.row l.i l.invariant c.word_at.result
+    (omega (arith, length_slot c.args.bytes.now c.args.n c.args.j))
+    (c.word_at.ensures ∙ rw c.file_bytes-at.ensures
+    (sym (slot_word c.args.bytes.now c.args.n c.args.j l.i (omega (arith, room (goal.at.loop-i-preserved c).In-loop-i)))))
 
 pub returns : goal.returns
 returns c =
     let l = c.loop-i in
-    filled_end (slot_row c.args.bytes.now c.args.n c.args.j) l.row l.i l.invariant.1
-    (omega (arith, l.invariant.1.long, length_slot c.args.bytes.now c.args.n c.args.j))
+    filled_end (slot_row c.args.bytes.now c.args.n c.args.j) l.row l.i l.invariant
+    (omega (arith, l.invariant.long, length_slot c.args.bytes.now c.args.n c.args.j))

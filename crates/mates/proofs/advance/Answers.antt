@@ -1,39 +1,14 @@
--- `mates::advance` meets its contract: the nodes from x on decide. Assumes nothing.
+-- `mates::advance` meets its contract: what `find` comes to is the candidate. Assumes nothing.
+use Rattle.std.proofs.Common.{rules, ◌≤◌, ◌<◌, ◌∙◌}
+use Rattle.std.proofs.lemmas.Iterator.{first_from_Range}
+use borrow.Author.Tests.{tests}
 use Rattle.trees.specs.Tables.{rank_in}
-use Rattle.trees.proofs.MateLaws.{candidate_end, candidate_hit, candidate_pass}
-use native.Mathlib.Numerals.{add-one}
-use native.Mathlib.Omega.{arith}
-use mathlib.Core.Path.{refl, sym, ◌∙◌}
+use Rattle.mates.proofs.Walks.{candidate_of_find}
 use Rattle.mates.proofs.advance.Goals as goal
-
-pub loop-x-init : goal.loop-x-init
-loop-x-init c = (omega arith, refl)
-
-pub rank-requires : goal.rank-requires
-rank-requires c =
-    (omega arith, omega arith, c.requires.3.le c.loop-x.x (omega arith))
-
-pub returns-then-k-rank : goal.returns-then-k-rank
-returns-then-k-rank c =
-    let a = c.args in
-    sym (c.loop-x.invariant.1 ∙ candidate_hit (rank_in a.n a.ranks.now.size a.ranks.now.low) c.loop-x.x a.m a.k (omega arith)
-    (omega (arith, c.rank.ensures)))
-
-pub overflow_add-x : goal.overflow_add-x
-overflow_add-x c = omega arith
-
-pub loop-x-smaller : goal.loop-x-smaller
-loop-x-smaller c = omega arith
-
-pub loop-x-preserved : goal.loop-x-preserved
-loop-x-preserved c =
-    let a = c.args in (
-      omega arith,
-      rw add-one (c.loop-x.invariant.1 ∙ candidate_pass (rank_in a.n a.ranks.now.size a.ranks.now.low) c.loop-x.x a.m a.k (omega arith)
-          (omega (arith, c.rank.ensures))),
-    )
 
 pub returns : goal.returns
 returns c =
     let a = c.args in
-    sym (c.loop-x.invariant.1 ∙ candidate_end (rank_in a.n a.ranks.now.size a.ranks.now.low) c.loop-x.x a.m a.k (omega arith))
+    let rank = rank_in a.n a.ranks.now.size a.ranks.now.low in
+    let h = first_from_Range _ _ _ _ (λ x. a.k ≤ rank x) (λ x. rank x < a.k) c.find.ensures.ran (λ x q k. search (rules, tests)) (λ x q k. search (rules, tests)) in
+    c.unwrap_or.ensures ∙ candidate_of_find rank a.b a.m a.k c.requires.1 c.find.result h

@@ -1,25 +1,10 @@
 -- `mates::mates` meets its contract. Assumes nothing.
 use Rattle.trees.proofs.FallsLaws.{standard_falls}
+use Rattle.trees.proofs.StandardLaws.{standard_to}
 use Rattle.trees.proofs.PlaceLaws.{place_keys}
 use Rattle.mates.proofs.mates.Goals as goal
 
-pub of-other-requires : goal.of-other-requires
-of-other-requires c = standard_falls _ _ c.requires.2
-
-pub spread-ends-requires : goal.spread-ends-requires
-spread-ends-requires c =
-    (standard_falls _ _ c.requires.2, place_keys _ _ (standard_falls _ _ c.requires.0) c.args.chart.now.start c.requires.1.starts)
-
-pub confirmations-requires : goal.confirmations-requires
-confirmations-requires c = (
-  c.requires.0,
-  c.requires.2,
-  record {
-    sizes = c.requires.1.ranked.sizes;
-    starts = c.requires.1.starts;
-    others = c.of-other.ensures.sizes;
-    first = c.spread-ends.ensures.0;
-    last = c.spread-ends.ensures.1;
-  },
-  c.candidates.ensures,
-)
+pub fill-requires-2 : goal.fill-requires-2
+fill-requires-2 c =
+    let chart = c.args.chart.now in
+    rw (c.falling-falling.ensures.samples, c.requires) (place_keys _ _ (standard_falls _ _ (standard_to _ _ chart.reference.standard)) chart.places.now.start chart.tables.starts)

@@ -8,18 +8,17 @@ use Rattle.merge.proofs.merge_carried.Goals as goal
 pub carry-requires : goal.carry-requires
 carry-requires c =
     let q = c.requires.0.first in
-    let moves = rw c.merge_ranked.ensures.0 at c.merge_ranked.ensures.1 in (
+    let moves = rw c.merge_ranked-num.ensures.0 at c.merge_ranked-num.ensures.1 in (
       omega (arith, c.nodes.ensures, few _ _ (standard_falls _ _ q)),
       omega (arith, c.nodes.ensures, q.valid.low),
-      c.requires.3,
       rw c.nodes.ensures (settled_apart q (merged_standard c.requires.0) moves),
     )
 
 pub returns : goal.returns
 returns c =
     record {
-      row = c.merge_ranked.ensures.0;
+      row = c.merge_ranked-num.ensures.0;
       num = _;
-      settled = c.merge_ranked.ensures.1;
+      settled = c.merge_ranked-num.ensures.1;
       carried = rw c.nodes.ensures at c.carry.ensures;
     }

@@ -8,27 +8,19 @@ use Rattle.merge.proofs.merge_ranked.Goals as goal
 pub lockstep-c-requires : goal.lockstep-c-requires
 unfolding blank
 lockstep-c-requires c =
-    (c.requires.0, c.requires.1, c.requires.2, refl, refl, refl)
-
-pub raise-requires : goal.raise-requires
-raise-requires c =
-    (c.requires.0.first, c.lockstep-c.ensures.words_a)
-
-pub raise-requires-2 : goal.raise-requires-2
-raise-requires-2 c =
-    (c.requires.0.second, c.lockstep-c.ensures.words_b)
+    (c.requires.0, c.requires.1, c.requires.2, refl, refl)
 
 pub parents-requires : goal.parents-requires
 parents-requires c =
-    merged_climbable c.requires.0 c.lockstep-c.ensures c.raise.ensures.0 c.raise-2.ensures.0
+    merged_climbable c.requires.0 c.lockstep-c.ensures c.raise.ensures c.raise-2.ensures
 
 pub write_row-requires : goal.write_row-requires
 write_row-requires c =
-    let ready = merged_climbable c.requires.0 c.lockstep-c.ensures c.raise.ensures.0 c.raise-2.ensures.0 in
-    (c.requires.0.first, c.requires.0.second, ready.most, c.requires.4)
+    let ready = merged_climbable c.requires.0 c.lockstep-c.ensures c.raise.ensures c.raise-2.ensures in
+    (c.requires.0.first, c.requires.0.second, ready.most, c.requires.3)
 
 pub returns : goal.returns
 returns c =
-    let long = c.write_row.auto.out ∙ c.requires.4 in
-    let e = merged_row c.requires.0 c.lockstep-c.ensures c.raise.ensures.0 c.raise-2.ensures.0 c.parents.ensures long c.write_row.ensures in
-    (e, rw e (merged_settled c.requires.0 c.lockstep-c.ensures c.raise.ensures.0), c.raise.ensures.1)
+    let long = c.write_row.auto.out ∙ c.requires.3 in
+    let e = merged_row c.requires.0 c.lockstep-c.ensures c.raise.ensures c.raise-2.ensures c.parents.ensures long c.write_row.ensures in
+    (e, rw e (merged_settled c.requires.0 c.lockstep-c.ensures c.raise.ensures))

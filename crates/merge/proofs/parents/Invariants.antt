@@ -3,7 +3,4 @@ use Rattle.trees.specs.Climbing.{Climbs}
 use Rattle.merge.proofs.parents.Given as goal
 
 abbrev pub invariant-loop-i : goal.invariant-loop-i
-invariant-loop-i l = Climbs l.n l.a l.up_a l.b l.up_b l.initial.mins l.c l.i l.mins l.places_a l.places_b
-
-abbrev pub decreases-loop-i : goal.decreases-loop-i
-decreases-loop-i l = l.i
+invariant-loop-i l = Climbs l.n l.a.row.now l.a.up.now l.b.row.now l.b.up.now l.initial.mins l.c l.i l.mins l.places_a l.places_b

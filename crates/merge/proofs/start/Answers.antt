@@ -1,18 +1,16 @@
 -- `merge::start` copies the parents of the samples. Assumes nothing.
-use native.Mathlib.Numerals.{add-one}
+use Rattle.std.proofs.Common.{◌+◌, ◌-◌, ◌<◌, length, arith, one-add, length-take}
+use Rattle.std.proofs.Math.ListN.{get_or-append}
+use Rattle.std.proofs.lemmas.List.{get_or-take}
+use Rattle.std.proofs.lemmas.Grind.{get_or_after_one}
 use Rattle.trees.specs.Rows.{parent}
-use native.Mathlib.Omega.{arith}
-use Rattle.passes.proofs.Filling.{filling_start, filling_more, filling_end}
 use Rattle.merge.proofs.start.Goals as goal
 
-pub loop-s-init : goal.loop-s-init
-loop-s-init c = filling_start (omega arith) c.requires.1
-
-pub loop-s-preserved : goal.loop-s-preserved
-unfolding parent
-loop-s-preserved c =
-    filling_more c.loop-s.invariant (omega arith) c.requires.0.valid.most (rw add-one)
-
 pub returns : goal.returns
-returns c =
-    (filling_end c.loop-s.invariant (omega arith), c.loop-s.invariant.long)
+unfolding parent
+returns c = record {
+  is = λ v a h.
+      let long : v < length c.copy_from_slice.new.self = omega (arith, c.copy_from_slice.ensures.len, length-take c.args.n c.args.places.now, c.requires.valid.most) in
+      let less : v < c.args.n + 1 - 1 = omega arith in
+      rw (get_or-append c.copy_from_slice.new.self _ 0 v long, c.copy_from_slice.ensures.after, get_or-take _ _ _ _ less, get_or_after_one, one-add);
+}

@@ -1,12 +1,7 @@
 -- `merge::write_row` writes word by word. Assumes nothing.
+use Rattle.trees.specs.Tables.{Tabled}
 use Rattle.trees.specs.Climbing.{word_of}
-use Rattle.trees.specs.Checks.{row_words}
-use Prim.Native.Nat.{◌-◌}
-use Rattle.passes.proofs.Filling.{Filling}
 use Rattle.merge.proofs.write_row.Given as goal
 
 abbrev pub invariant-loop-w : goal.invariant-loop-w
-invariant-loop-w l = Filling (word_of l.n l.a l.up_a l.b l.up_b l.parents l.c) 0 (row_words l.n) (row_words l.n) l.w l.out
-
-abbrev pub decreases-loop-w : goal.decreases-loop-w
-decreases-loop-w l = row_words l.n - l.w
+invariant-loop-w l = Tabled (word_of l.n l.a.row.now l.a.up.now l.b.row.now l.b.up.now l.parents l.c) 0 l.w l.out

@@ -1,63 +1,38 @@
 -- `count::plain::take_in` merges what is shown of one run. Assumes nothing.
-use Prim.Native.Nat.{ℕ, ◌<◌}
+use Prim.Native.Nat.{◌<◌}
 use mathlib.Core.Path.{sym, ap, ◌∙◌}
-use Rattle.count.specs.PlainLaws.{accepted_standard, accepted_mergeable, accepted_step}
-use mathlib.Core.Bool.{Bool, false}
 use native.Mathlib.Omega.{arith}
-use lib.ListN.{length, length-replicate}
-use Rattle.trees.specs.Valid.{Standard}
+use lib.ListN.{length}
 use Rattle.trees.proofs.FallsLaws.{few, standard_falls}
-use Rattle.count.specs.StudyLaws.{study_most, study_few, study_room, study_standard}
+use Rattle.count.specs.StudyLaws.{held_study, study_few}
+use Rattle.count.specs.PlainLaws.{accepted_standard, accepted_mergeable, accepted_step}
 use Rattle.count.proofs.plain.take_in.Goals as goal
 
-pub run_row-row-requires : goal.run_row-row-requires
-run_row-row-requires c =
-    (study_most _ _ _ c.requires.0, omega (arith, c.requires.1, study_few _ _ _ c.requires.0), study_room _ _ _ c.requires.0 c.args.i c.requires.1)
-
-pub holders-requires : goal.holders-requires
-holders-requires c =
-    let a = c.args in
-    let q : Standard a.n c.run_row-row.result.now = rw c.run_row-row.ensures (study_standard _ _ _ c.requires.0 a.i c.requires.1) in
-    (c.requires.0, q, length-replicate {A = ℕ} 1024 0)
-
-pub nodes-requires : goal.nodes-requires
-nodes-requires c =
-    let a = c.args in
-    let q : Standard a.n c.run_row-row.result.now = rw c.run_row-row.ensures (study_standard _ _ _ c.requires.0 a.i c.requires.1) in
-    omega (arith, q.valid.words, q.valid.least)
-
-pub marks-requires : goal.marks-requires
-marks-requires c =
-    let a = c.args in
-    let q : Standard a.n c.run_row-row.result.now = rw c.run_row-row.ensures (study_standard _ _ _ c.requires.0 a.i c.requires.1) in (
-      omega (arith, c.nodes.ensures, q.valid.low),
-      omega (arith, c.nodes.ensures, few _ _ (standard_falls _ _ q)),
-      length-replicate {A = Bool} 1024 false,
-      c.requires.4.1,
-      study_few _ _ _ c.requires.0,
-    )
+pub marks-keep-requires : goal.marks-keep-requires
+marks-keep-requires c =
+    let q = c.run_row-row.ensures.standard in
+    let e = c.nodes.ensures in
+    (omega (arith, e, q.valid.low), omega (arith, e, few _ _ (standard_falls _ _ q)), c.requires.3.1, study_few _ _ _ (held_study c.args.study))
 
 pub merge-requires : goal.merge-requires
 merge-requires c =
-    let a = c.args in
-    let r = c.run_row-row.ensures in
-    let some : 0 < a.k = omega (arith, c.requires.1) in (
-      accepted_mergeable a.words.now a.n a.k a.t c.requires.0 some c.requires.4 a.i _ _ _ _ _ c.requires.1 c.requires.2 r
-          c.holders.ensures.0 c.nodes.ensures c.marks.ensures.0,
-      c.requires.3,
+    let s = c.args.study in
+    let some : 0 < s.k = omega (arith, c.requires.0) in (
+      accepted_mergeable s.words.now s.n s.k c.args.t (held_study s) some c.requires.3 c.args.i _ _ _ _ _ c.requires.0 c.requires.1
+          c.run_row-row.ensures.row c.holders.ensures c.nodes.ensures c.marks-keep.ensures,
+      c.requires.2,
     )
 
-pub copy-requires : goal.copy-requires
-copy-requires c =
-    let a = c.args in
-    let some : 0 < a.k = omega (arith, c.requires.1) in
-    ap length c.requires.2 ∙ (accepted_standard a.words.now a.n a.k a.t c.requires.0 some c.requires.4 a.i).valid.words ∙ sym
-    (c.merge.auto.out ∙ c.requires.3)
+pub copy_from_slice-requires : goal.copy_from_slice-requires
+copy_from_slice-requires c =
+    let s = c.args.study in
+    let some : 0 < s.k = omega (arith, c.requires.0) in
+    ap length c.requires.1 ∙ (accepted_standard s.words.now s.n s.k c.args.t (held_study s) some c.requires.3 c.args.i).valid.words
+    ∙ sym (c.merge.auto.out ∙ c.requires.2)
 
 pub returns : goal.returns
 returns c =
-    let a = c.args in
-    let r = c.run_row-row.ensures in
-    let some : 0 < a.k = omega (arith, c.requires.1) in
-    c.copy.ensures ∙ c.merge.ensures ∙ accepted_step a.words.now a.n a.k a.t c.requires.0 some c.requires.4 a.i _ _ _ _ _
-    c.requires.1 c.requires.2 r c.holders.ensures.0 c.nodes.ensures c.marks.ensures.0
+    let s = c.args.study in
+    let some : 0 < s.k = omega (arith, c.requires.0) in
+    c.copy_from_slice.ensures.after ∙ c.merge.ensures ∙ accepted_step s.words.now s.n s.k c.args.t (held_study s) some c.requires.3 c.args.i
+    _ _ _ _ _ c.requires.0 c.requires.1 c.run_row-row.ensures.row c.holders.ensures c.nodes.ensures c.marks-keep.ensures

@@ -4,29 +4,30 @@ use native.Mathlib.Omega.{arith}
 use Rattle.listing.specs.ListingLaws.{tree_count, tree_first, tree_next}
 use Rattle.trees.specs.Rows.{nodes}
 use Prim.Native.Nat.{◌+◌, ◌-◌}
+use Rattle.trees.proofs.StandardLaws.{standard_to}
 use borrow.Author.Rules.{rules}
 use Rattle.listing.proofs.lines.tree_line.Goals.{Start}
 use Rattle.listing.proofs.lines.tree_line.Goals as goal
 
 -- the line's number is below the number of lines, and those are fewer than the nodes
-some : (st : Start) → let a = st.args in (a.i < nodes a.row.now - a.n + 1) × (a.n < nodes a.row.now) × (nodes a.row.now < 1024)
+some : (st : Start) → let a = st.args in (a.i < nodes a.tree.row.now - a.tree.n + 1) × (a.tree.n < nodes a.tree.row.now) × (nodes a.tree.row.now < 1024)
 some st =
     let a = st.args in
-    let v = st.requires.standard.0.valid in
-    (rw (tree_count a.n a.k a.row.now a.support.now) at st.requires.i_in_bounds.0, v.low, omega (arith, v.high, v.most))
+    let v = (standard_to _ _ a.tree.standard).valid in
+    (rw (tree_count a.tree.n a.k a.tree.row.now a.support.now) at st.requires.i_in_bounds.0, v.low, omega (arith, v.high, v.most))
 
 pub returns-then-i-eq0 : goal.returns-then-i-eq0
 returns-then-i-eq0 c =
     let a = c.args in
-    rw (c.if-i-eq0.true, tree_first a.n a.k a.row.now a.support.now) c.put_head.ensures
+    rw (c.if-i-eq0.true, tree_first a.tree.n a.k a.tree.row.now a.support.now) c.put_head.ensures
 
 pub overflow_add-n : goal.overflow_add-n
 overflow_add-n c = omega (arith, some (search rules))
 
 pub put_node-requires : goal.put_node-requires
-put_node-requires c = (c.requires.standard.0, c.requires.standard.1, omega (arith, some (goal.at.put_node-requires c).Start), omega (arith, some (goal.at.put_node-requires c).Start), c.requires.i_in_bounds.1)
+put_node-requires c = (c.requires.support_words, omega (arith, some (goal.at.put_node-requires c).Start), omega (arith, some (goal.at.put_node-requires c).Start), c.requires.i_in_bounds.1)
 
 pub returns : goal.returns
 returns c =
     let a = c.args in
-    rw (tree_next a.n a.k a.row.now a.support.now a.i (omega (arith, c.if-i-eq0.false)) c.requires.i_in_bounds.0) c.put_node.ensures
+    rw (tree_next a.tree.n a.k a.tree.row.now a.support.now a.i (omega (arith, c.if-i-eq0.false)) c.requires.i_in_bounds.0) c.put_node.ensures

@@ -10,7 +10,7 @@ returns c =
     let a = c.args in
     let w = a.words.now in
     let call = slot_call a.bytes.now a.n a.j in
-    let word = slot_word a.bytes.now a.n a.j (λ x. omega (arith, c.shared_slice_known-1.given x)) in
+    let word = slot_word a.bytes.now a.n a.j (λ x. omega (arith, c.type_inv.bytes x)) in
     let o = rw (c.identifier_of.ensures, c.row_into.ensures) at c.add_formed.ensures.answer in
     let e = rw (c.identifier_of.ensures, c.row_into.ensures) at c.add_formed.ensures.words in
     record { answer = o; words = e; kept = rw e (called_kept study_words a.n w c.requires.0 call word) }

@@ -5,34 +5,40 @@ use Rattle.trees.specs.Lists.{tabulate}
 use Rattle.runs.specs.Formed.{Kept}
 use Rattle.file.proofs.FileLaws.{good_length}
 use Rattle.listing.specs.Listing.{study_words, slot_call, adds_and_reports, listed}
-use Rattle.listing.specs.ListingLaws.{listed_bad, load_stops, load_goes}
-use Rattle.listing.proofs.told.load.Goals.{In-Ready}
+use Rattle.listing.specs.ListingLaws.{handed_on, listed_bad, load_stops, load_goes}
+use Rattle.listing.proofs.told.load.Goals.{In_ok-told_of}
 use Rattle.listing.proofs.told.load.Goals as goal
 
 -- the study is open, and the slots decide
-goes : (c : In-Ready) → let a = c.args in let n = c.in-Good.n in let k = c.in-Good.k in let w = c.«open».new.words in
-    Kept study_words n w × (adds_and_reports n k w (tabulate k (slot_call a.bytes.now n) 0) 0 ≡ listed a.bytes.now)
+goes : (c : In_ok-told_of) → let a = c.args in let z = c.in-Some.sizes in let w = c.«open».new.words in
+    Kept study_words z.samples w × (adds_and_reports z.samples z.runs w (tabulate z.runs (slot_call a.bytes.now z.samples) 0) 0 ≡ listed a.bytes.now)
 goes c =
     let a = c.args in
-    load_goes a.bytes.now a.words.now c.«open».result (sym c.file_of.ensures ∙ c.in-Good.is) c.requires c.«open».ensures.answer _
-    (sym c.told_of-told.ensures ∙ c.in-Ready.is) c.«open».ensures.words
+    load_goes a.bytes.now c.in-Some.sizes a.words.now c.«open».result (sym c.file_of.ensures ∙ c.in-Some.is) c.requires c.«open».ensures.answer _
+    (sym c.told_of.ensures ∙ c.in_ok-told_of.was) c.«open».ensures.words
 
 pub returns-in_default : goal.returns-in_default
 returns-in_default c =
-    record { words_after = sym (listed_bad c.args.bytes.now (sym c.file_of.ensures ∙ c.in_default.is)); loaded = tt }
+    let e = listed_bad c.args.bytes.now (sym c.file_of.ensures ∙ c.in_default.is) in
+    record { words_after = rw c.new.ensures (sym e); loaded = tt }
 
-pub returns-in_default-told : goal.returns-in_default-told
-returns-in_default-told c =
+pub returns-in_err-told_of : goal.returns-in_err-told_of
+returns-in_err-told_of c =
     let a = c.args in
-    let s = load_stops a.bytes.now a.words.now c.«open».result (sym c.file_of.ensures ∙ c.in-Good.is) c.requires c.«open».ensures.answer _
-    (sym c.told_of-told.ensures ∙ c.in_default-told.is) in
-    record { words_after = rw c.told_of-told.ensures s.0; loaded = rw c.told_of-told.ensures s.1 }
+    let x = c.in_err-told_of.field-0.0 in
+    let e = handed_on _ x c.from_residual.ensures.1 in
+    let s = load_stops a.bytes.now c.in-Some.sizes a.words.now c.«open».result (sym c.file_of.ensures ∙ c.in-Some.is) c.requires
+    c.«open».ensures.answer c.«open».new.words (sym c.told_of.ensures ∙ c.in_err-told_of.was) in
+    record { words_after = rw e s.0; loaded = rw e s.1 }
 
 pub add_slots-requires : goal.add_slots-requires
 add_slots-requires c =
-    let long = good_length c.args.bytes.now c.in-Good.n c.in-Good.k (sym c.file_of.ensures ∙ c.in-Good.is) in
-    ((goes (goal.at.add_slots-requires c).In-Ready).0, omega (arith, long))
+    let z = c.in-Some.sizes in
+    let long = good_length c.args.bytes.now z.samples z.runs (sym c.file_of.ensures ∙ c.in-Some.is) in
+    ((goes (goal.at.add_slots-requires c).In_ok-told_of).0, omega (arith, long))
 
 pub returns : goal.returns
-returns c =
-    record { words_after = c.add_slots.ensures.words_after ∙ (goes (goal.at.returns c).In-Ready).1; loaded = c.add_slots.ensures.loaded }
+returns c = record {
+  words_after = c.add_slots.ensures.words_after ∙ (goes (goal.at.returns c).In_ok-told_of).1;
+  loaded = c.add_slots.ensures.loaded;
+}

@@ -1,10 +1,6 @@
 -- `merge::carrying::carry` carries node by node. Assumes nothing.
-use Prim.Native.Nat.{◌-◌, ◌≤◌}
 use Rattle.merge.specs.Carrying.{Carried}
 use Rattle.merge.proofs.carrying.carry.Given as goal
 
 abbrev pub invariant-loop-v : goal.invariant-loop-v
-invariant-loop-v l = Carried l.n l.keep l.num l.from l.initial.to l.v l.to × (l.n ≤ l.v) × (l.v ≤ l.m)
-
-abbrev pub decreases-loop-v : goal.decreases-loop-v
-decreases-loop-v l = l.m - l.v
+invariant-loop-v l = Carried l.n l.keep l.num l.from l.initial.to l.v l.to

@@ -1,61 +1,44 @@
 -- `passes::pass::starts` meets its contract: the root and the nodes of the steps from i on are laid. Assumes nothing.
 use Rattle.passes.proofs.Loops.{laying_start, laying_room, laying_step, laying_end}
-use Rattle.trees.proofs.FallsLaws.{few}
 use Rattle.trees.specs.Passes.{offset_at}
+use Rattle.trees.specs.Rows.{nodes}
 use lib.ListN.{get_or}
+use lib.Seq.{get_or-set_same}
 use native.Mathlib.Omega.{arith}
-use mathlib.Core.Path.{◌≡◌, ap}
-use Prim.Native.Nat.{ℕ, suc, ◌-◌}
+use mathlib.Core.Path.{◌≡◌, refl}
+use Prim.Native.Nat.{suc, ◌-◌, ◌<◌}
+use Rattle.passes.proofs.pass.starts.Goals.{After-step-t}
 use Rattle.passes.proofs.pass.starts.Goals as goal
 
-pub offset_bounds-start-n : goal.offset_bounds-start-n
-offset_bounds-start-n c = omega arith
+-- the step before i, with the offset of its node
+module _ (c : After-step-t) where
+  before : c.loop-i.i ≡ suc (c.loop-i.i - 1)
+  before = omega arith
 
-pub bounds-start-n : goal.bounds-start-n
-bounds-start-n c = omega arith
+  below : suc (c.loop-i.i - 1) < nodes c.args.row.row.now
+  below = omega (arith, c.args.row.falls.low)
 
-pub overflow_sub-i : goal.overflow_sub-i
-overflow_sub-i c = omega arith
+  offset : get_or c.args.off.now c.step-t.result.node 0 ≡ offset_at c.args.row.n c.args.row.row.now (c.loop-i.i - 1)
+  offset = rw c.step-t.ensures.is (c.requires.at (c.loop-i.i - 1) (omega (arith, below)))
 
 pub loop-i-init : goal.loop-i-init
-loop-i-init c = (
-  c.nodes-m.ensures,
-  laying_start c.args.n c.args.row.now c.requires.0 c.args.start.now _ (ap (λ (m : ℕ). m - 1) c.nodes-m.ensures)
-      c.told-start,
-)
+loop-i-init c =
+    rw c.nodes-m.ensures (laying_start c.args.row.n c.args.row.row.now c.args.row.falls _ (get_or-set_same c.args.start.now c.args.row.n 0 0 (omega (arith, c.args.row.falls.most))))
 
-pub overflow_sub-i-in-loop-i : goal.overflow_sub-i-in-loop-i
-overflow_sub-i-in-loop-i c = omega arith
-
-pub step-t-requires : goal.step-t-requires
-step-t-requires c =
-    (c.requires.0, c.loop-i.invariant.0, omega (arith, c.loop-i.invariant.1.low))
-
-pub place-requires : goal.place-requires
-place-requires c =
-    let x = c.step-t.ensures in
-    let i : c.loop-i.i ≡ suc (c.loop-i.i - 1) = omega arith in
-    let o : get_or c.args.off.now c.step-t.result.node 0 ≡ offset_at c.args.n c.args.row.now (c.loop-i.i - 1) =
-    (rw x.is (c.requires.1.at (c.loop-i.i - 1) (omega (arith, c.loop-i.invariant.1.low)))) in
-    let k = laying_room c.args.n c.args.row.now c.requires.0 (c.loop-i.i - 1) c.loop-i.start _ _ _ (omega (arith, c.loop-i.invariant.1.low)) x o
-    (rw i at c.loop-i.invariant.1) in
-    (omega (arith, x.low, few _ _ c.requires.0), omega (arith, x.top, few _ _ c.requires.0), omega (arith, c.requires.0.most))
-
-pub loop-i-smaller : goal.loop-i-smaller
-loop-i-smaller c = omega arith
+pub overflow_add-start : goal.overflow_add-start
+overflow_add-start c =
+    let s = (goal.at.overflow_add-start c).After-step-t in
+    let k = laying_room c.args.row.n c.args.row.row.now c.args.row.falls (c.loop-i.i - 1) c.loop-i.start _ _ _ (below s) c.step-t.ensures (offset s)
+    (rw (before s) at c.loop-i.invariant) in
+    omega (arith, c.args.row.falls.most)
 
 pub loop-i-preserved : goal.loop-i-preserved
 loop-i-preserved c =
-    let x = c.step-t.ensures in
-    let i : c.loop-i.i ≡ suc (c.loop-i.i - 1) = omega arith in
-    let o : get_or c.args.off.now c.step-t.result.node 0 ≡ offset_at c.args.n c.args.row.now (c.loop-i.i - 1) =
-    (rw x.is (c.requires.1.at (c.loop-i.i - 1) (omega (arith, c.loop-i.invariant.1.low)))) in (
-      c.loop-i.invariant.0,
-      laying_step c.args.n c.args.row.now c.requires.0 (c.loop-i.i - 1) c.loop-i.start _ _ _
-          (omega (arith, c.loop-i.invariant.1.low)) x o (rw i at c.loop-i.invariant.1) _ c.place.ensures,
-    )
+    let s = (goal.at.loop-i-preserved c).After-step-t in
+    laying_step c.args.row.n c.args.row.row.now c.args.row.falls (c.loop-i.i - 1) c.loop-i.start _ _ _ (below s) c.step-t.ensures (offset s)
+    (rw (before s) at c.loop-i.invariant) _ (omega arith) refl
 
 pub returns : goal.returns
 returns c =
     let e : c.loop-i.i ≡ 0 = omega arith in
-    laying_end c.args.n c.args.row.now c.loop-i.start (rw e at c.loop-i.invariant.1)
+    laying_end c.args.row.n c.args.row.row.now c.loop-i.start (rw e at c.loop-i.invariant)

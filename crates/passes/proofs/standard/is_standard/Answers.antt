@@ -25,9 +25,6 @@ in-range c =
     let m = nodes c.args.row.now in
     (ltb-true n m (and_l (ltb n m) (ltb m (row_words n)) (spanned c)), ltb-true m (row_words n) (and_r (ltb n m) (ltb m (row_words n)) (spanned c)))
 
-pub overflow_mul-n : goal.overflow_mul-n
-overflow_mul-n c = omega arith
-
 pub returns-then-not-n-m : goal.returns-then-not-n-m
 returns-then-not-n-m c =
     spans_decides c.args.n c.args.row.now c.requires.1 c.requires.2 (rw (← c.nodes-m.ensures) c.if-not-n-m.true)
@@ -42,10 +39,10 @@ returns-then-not-falling c =
 pub filler_zero-requires : goal.filler_zero-requires
 filler_zero-requires c = (c.requires.2, (in-range (goal.at.filler_zero-requires c).Else-not-n-m).1)
 
-pub ranked-requires : goal.ranked-requires
-ranked-requires c =
-    falls_to c.args.n c.args.row.now c.requires.1 c.requires.2 (in-range (goal.at.ranked-requires c).Else-not-n-m).0 (in-range (goal.at.ranked-requires c).Else-not-n-m).1
-    (sym c.falling.ensures ∙ c.if-not-falling.false)
+pub invariant_of-ranked : goal.invariant_of-ranked
+invariant_of-ranked c =
+    let spans = in-range (goal.at.invariant_of-ranked c).Else-not-n-m in
+    record { falls = falls_to c.args.n c.args.row.now c.requires.1 c.requires.2 spans.0 spans.1 (sym c.falling.ensures ∙ c.if-not-falling.false) }
 
 pub returns : goal.returns
 returns c =

@@ -6,19 +6,19 @@ use mathlib.Core.Path.{refl}
 use Rattle.passes.proofs.turns.step.Goals as goal
 
 pub turn-v-requires : goal.turn-v-requires
-turn-v-requires c = (omega (arith, c.requires.0.low), omega (arith, few _ _ c.requires.0), omega arith)
+turn-v-requires c = (omega (arith, c.args.row.falls.low), omega (arith, few _ _ c.args.row.falls), omega arith)
 
 pub parent-p-requires : goal.parent-p-requires
 parent-p-requires c =
     omega (
       arith,
-      (stepped c.args.n c.args.row.now c.requires.0 c.args.i c.turn-v.result _ (omega arith)
-          (rw (← c.requires.1) c.turn-v.ensures) refl).low,
-      c.requires.0.high,
-      c.requires.0.words,
+      (stepped c.args.row.n c.args.row.row.now c.args.row.falls c.args.i c.turn-v.result _ (omega arith)
+          (rw (← c.requires.0) c.turn-v.ensures) refl).low,
+      c.args.row.falls.high,
+      c.args.row.falls.words,
     )
 
 pub returns : goal.returns
 returns c =
-    stepped c.args.n c.args.row.now c.requires.0 c.args.i c.turn-v.result c.parent-p.result (omega arith)
-    (rw (← c.requires.1) c.turn-v.ensures) c.parent-p.ensures
+    stepped c.args.row.n c.args.row.row.now c.args.row.falls c.args.i c.turn-v.result c.parent-p.result (omega arith)
+    (rw (← c.requires.0) c.turn-v.ensures) c.parent-p.ensures

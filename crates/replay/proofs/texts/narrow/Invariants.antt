@@ -1,12 +1,6 @@
 -- `replay::texts::narrow` copies: the first i bytes are the words. Assumes nothing.
-use Prim.Native.Nat.{◌-◌, ◌≤◌}
-use mathlib.Core.Path.{◌≡◌}
-use lib.ListN.{length}
 use Rattle.replay.specs.Copies.{CopiedTo}
 use Rattle.replay.proofs.texts.narrow.Given as goal
 
 abbrev pub invariant-loop-i : goal.invariant-loop-i
-invariant-loop-i l = (l.i ≤ length l.words) × (length l.bytes ≡ length l.initial.bytes) × CopiedTo l.words l.i l.bytes
-
-abbrev pub decreases-loop-i : goal.decreases-loop-i
-decreases-loop-i l = length l.words - l.i
+invariant-loop-i l = CopiedTo l.words l.i l.bytes

@@ -4,4 +4,5 @@ use Rattle.slots.proofs.store.close_at.Goals as goal
 
 pub returns : goal.returns
 returns c =
-    close_law c.args.words.now c.args.from c.args.to c.args.width c.requires.0 c.requires.1 c.lower.ensures c.clear.ensures
+    let a = c.args in
+    close_law a.words.now a.from a.to a.width c.requires.0 c.requires.1 c.copy_within.ensures.after (c.fill.ensures.after (λ y e. e))

@@ -4,4 +4,4 @@ use Rattle.text.proofs.lines.put_head.Goals as goal
 
 pub returns : goal.returns
 unfolding head_line
-returns c = c.put_line.ensures
+returns c = rw c.from.ensures at c.put_line.ensures

@@ -6,14 +6,9 @@ use Rattle.text.proofs.Laws.{passing_skip, passing_put, passing_end}
 use borrow.Author.Rules.{rules}
 use Rattle.text.proofs.node.put_samples.Goals as goal
 
-pub bounds-marks-p : goal.bounds-marks-p
-bounds-marks-p c =
-    omega (arith, c.parent-p.ensures, c.requires.by_index c.loop-s.s (search rules))
-
 pub loop-s-preserved-then-not-marks-p : goal.loop-s-preserved-then-not-marks-p
 loop-s-preserved-then-not-marks-p c =
     record {
-      passed = search rules;
       room = search rules;
       left = passing_skip (parent_marked c.args.marks.now c.args.row.now) c.loop-s.s c.args.n c.loop-s.invariant.left (search rules)
           (rw (← c.parent-p.ensures) c.if-not-marks-p.true);
@@ -26,7 +21,6 @@ put_field-next-requires c =
 pub loop-s-preserved : goal.loop-s-preserved
 loop-s-preserved c =
     record {
-      passed = search rules;
       room = omega (arith, c.put_field-next.ensures.place, decimal_long 2 c.loop-s.s (search rules));
       left = passing_put (parent_marked c.args.marks.now c.args.row.now) c.loop-s.s c.args.n c.loop-s.invariant.left (search rules)
           (rw (← c.parent-p.ensures) c.if-not-marks-p.false) c.put_field-next.ensures;

@@ -1,18 +1,10 @@
 -- `writer::calls::check_given` answers the chain of checks 1 and 3. Assumes nothing.
-use Rattle.trees.specs.Checks.{check1, check3}
-use Rattle.judge.proofs.Laws.{stops, passed1_most}
-use Rattle.writer.proofs.AnswerLaws.{second_last}
+use mathlib.Core.Path.{◌∙◌}
+use Rattle.judge.proofs.Laws.{stopped, goes, last}
 use Rattle.writer.proofs.calls.check_given.Goals as goal
 
-pub returns-in_default : goal.returns-in_default
-returns-in_default c = stops _ _ c.samples-a.ensures _ _ _ c.in_default.is
-
-pub words-requires : goal.words-requires
-words-requires c = search passed1_most
+pub returns-in_err-samples : goal.returns-in_err-samples
+returns-in_err-samples c = stopped _ _ _ c.in_err-samples.field-0.0 c.from_residual.ensures.1 c.in_err-samples.ensures
 
 pub returns : goal.returns
-returns c =
-    let n = c.args.n in
-    let r = c.args.row.now in
-    second_last (check1 n) (check3 n r) _ c.words.result
-    c.samples-a.ensures c.in-Accepted.is c.words.ensures
+returns c = c.words.ensures ∙ last _ ∙ goes _ _ c.in_ok-samples.ensures

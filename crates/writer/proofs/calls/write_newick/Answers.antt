@@ -7,25 +7,24 @@ use Rattle.newick.specs.RowText.Wanted.{plain}
 use Rattle.writer.proofs.AnswerLaws.{answer_stops, answer_goes, given_one}
 use Rattle.writer.proofs.calls.write_newick.Goals as goal
 
-pub write_row-requires : goal.write_row-requires
-write_row-requires c =
-    let n = c.args.n in
-    let r = c.args.row.now in
-    let g = given_one n r _ c.check_given.ensures c.in_default.is in
-    (g.0, g.1, g.2, λ h. absurd (omega arith))
-
-pub returns-in_default : goal.returns-in_default
+pub returns-in_err-check_given : goal.returns-in_err-check_given
 unfolding writing write_checks
-returns-in_default c =
+returns-in_err-check_given c =
     let n = c.args.n in
     let r = c.args.row.now in
     let text = c.args.text.now in
     let bytes = written n r plain in
     let cs = (check1 n ∷ check3 n r ∷ []) in
     let ds = row_checks n r ++ (check_room bytes text ∷ []) in
-    let rest = c.write_row.ensures in
-    let answer = answer_goes cs ds bytes text _ c.check_given.ensures _ _ c.in_default.is (rest.result_value, rest.text_after) in
+    let answer = answer_stops cs ds bytes text _ c.in_err-check_given.field-0.0 c.from_residual.ensures.1 c.in_err-check_given.ensures in
     record { result_value = answer.0; text_after = answer.1 }
+
+pub write_row-requires : goal.write_row-requires
+write_row-requires c =
+    let n = c.args.n in
+    let r = c.args.row.now in
+    let g = given_one n r c.in_ok-check_given.ensures in
+    (g.0, g.1, g.2, λ h. absurd (omega arith))
 
 pub returns : goal.returns
 unfolding writing write_checks
@@ -36,5 +35,6 @@ returns c =
     let bytes = written n r plain in
     let cs = (check1 n ∷ check3 n r ∷ []) in
     let ds = row_checks n r ++ (check_room bytes text ∷ []) in
-    let answer = answer_stops cs ds bytes text _ c.check_given.ensures _ _ c.in-Refused.is in
+    let rest = c.write_row.ensures in
+    let answer = answer_goes cs ds bytes text _ _ c.in_ok-check_given.ensures (rest.result_value, rest.text_after) in
     record { result_value = answer.0; text_after = answer.1 }

@@ -8,16 +8,12 @@ use Rattle.writer.proofs.calls.write_valid.Goals as goal
 
 pub returns-then-text-text_length : goal.returns-then-text-text_length
 returns-then-text-text_length c =
-    let answer = room_short (written c.args.n c.args.row.now (wanted_by c.args.words.now)) c.args.text.now
+    let answer = room_short (written c.args.tree.n c.args.tree.row.now (wanted_by c.args.words.now)) c.args.text.now
     (omega (arith, c.text_length.ensures, c.if-text-text_length.true)) in
-    record { result_value = answer.0; text_after = answer.1 }
-
-pub put_row-requires : goal.put_row-requires
-put_row-requires c =
-    (c.requires.0, c.requires.1, omega (arith, c.text_length.ensures, c.if-text-text_length.false))
+    record { result_value = rw c.new.ensures answer.0; text_after = answer.1 }
 
 pub returns : goal.returns
 returns c =
-    let answer = room_put (written c.args.n c.args.row.now (wanted_by c.args.words.now)) c.args.text.now _ _
+    let answer = room_put (written c.args.tree.n c.args.tree.row.now (wanted_by c.args.words.now)) c.args.text.now _ _
     (omega (arith, c.text_length.ensures, c.if-text-text_length.false)) c.put_row.ensures in
     record { result_value = answer.0; text_after = answer.1 }

@@ -1,11 +1,6 @@
 -- `writer::lengths::text_length` adds up what the nodes add: the nodes that are left decide. Assumes nothing.
-use Prim.Native.Nat.{◌-◌}
-use Rattle.trees.specs.Rows.{nodes}
 use Rattle.writer.specs.Lengths.{wanted_by, BytesLeft}
 use Rattle.writer.proofs.lengths.text_length.Given as goal
 
 abbrev pub invariant-loop-v : goal.invariant-loop-v
-invariant-loop-v l = BytesLeft l.n l.row (wanted_by l.words) l.v l.bytes
-
-abbrev pub decreases-loop-v : goal.decreases-loop-v
-decreases-loop-v l = nodes l.row - l.v
+invariant-loop-v l = BytesLeft l.tree.n l.tree.row.now (wanted_by l.words) l.v l.bytes

@@ -12,22 +12,22 @@ use Rattle.newick.specs.Bytes.{opening_byte}
 use Rattle.writer.specs.Nesting.{behind, in_pair, kids_in, table_text, table_child}
 use Rattle.writer.specs.NestingLaws.{nest_number, nest_pair}
 use Rattle.writer.proofs.PuttingLaws.{charted_word, open_room, putting_start, putting_text, putting_mark}
-use Rattle.writer.proofs.PuttingLaws.{putting_room, putting_less, putting_close, putting_again}
+use Rattle.writer.proofs.PuttingLaws.{putting_room, putting_close, putting_again}
 use Rattle.writer.proofs.texts.+put_text.Goals.{Else-left-v, At-loop-c}
 use Rattle.writer.proofs.texts.+put_text.Goals as goal
 
 module _ (t : ℕ) where
   -- behind the opening bracket
   abbrev inner : Else-left-v t → List ℕ
-  inner c = let a = c.args in in_pair (table_child a.head.now a.next.now a.left a.n a.words.now) (kids_in a.head.now a.next.now a.v)
+  inner c = let a = c.args in in_pair (table_child a.chains.now.head a.chains.now.next a.left a.n a.words.now) (kids_in a.chains.now.head a.chains.now.next a.v)
 
   paired : (c : Else-left-v t) → let a = c.args in
-      table_text a.head.now a.next.now a.left a.n a.words.now a.v ≡ opening_byte ∷ inner c
+      table_text a.chains.now.head a.chains.now.next a.left a.n a.words.now a.v ≡ opening_byte ∷ inner c
   paired c = let a = c.args in nest_pair _ a.left a.n _ a.v c.if-left-v.false
 
   -- the two parts of a child's text
   abbrev bare : At-loop-c t → List ℕ
-  bare c = let a = c.args in table_text a.head.now a.next.now (a.left - 1) a.n a.words.now c.loop-c.c
+  bare c = let a = c.args in table_text a.chains.now.head a.chains.now.next (a.left - 1) a.n a.words.now c.loop-c.c
 
   abbrev mark : At-loop-c t → List ℕ
   mark c = let a = c.args in behind a.n (wanted_by a.words.now) c.loop-c.c
@@ -46,7 +46,7 @@ loop-c-init t c =
     let a = c.args in
     let e = (goal.at.loop-c-init t c).Else-left-v in
     let h = ltb-false a.v a.n (or_none (eqb a.left 0) (ltb a.v a.n) c.if-left-v.false).1 in
-    putting_start c.requires.0 h (open_room (inner t e) (rw (paired t e) at c.requires.2) c.put_byte-e.ensures) c.wide-c.ensures.0
+    putting_start c.requires.0 h (open_room (inner t e) (rw (paired t e) at c.requires.2) c.put_byte-e.ensures) c.from-c.ensures
 
 pub put_text-e-requires : goal.put_text-e-requires
 put_text-e-requires t c =
@@ -68,16 +68,12 @@ pub returns-then-c-eq0 : goal.returns-then-c-eq0
 returns-then-c-eq0 t c =
     rw (paired t (goal.at.returns-then-c-eq0 t c).Else-left-v) (put_then c.put_byte-e.ensures
     (putting_close c.loop-c.invariant (put_then c.put_text-e.ensures c.put_mark-e.ensures)
-    (sym c.wide-c-in-loop-c.ensures.0 ∙ c.if-c-eq0.true) c.put_byte.ensures (omega arith)))
+    (sym c.from-c-in-loop-c.ensures ∙ c.if-c-eq0.true) c.put_byte.ensures (omega arith)))
 
 pub put_byte-e-requires-in-loop-c : goal.put_byte-e-requires-in-loop-c
 put_byte-e-requires-in-loop-c t c = putting_room c.loop-c.invariant (put_then c.put_text-e.ensures c.put_mark-e.ensures)
 
-pub loop-c-smaller : goal.loop-c-smaller
-loop-c-smaller t c =
-    putting_less c.loop-c.invariant (put_then c.put_text-e.ensures c.put_mark-e.ensures) c.put_byte-e-in-loop-c.ensures
-
 pub loop-c-preserved : goal.loop-c-preserved
 loop-c-preserved t c =
     putting_again c.loop-c.invariant (put_then c.put_text-e.ensures c.put_mark-e.ensures)
-    (λ z. c.if-c-eq0.false (c.wide-c-in-loop-c.ensures.0 ∙ z)) c.wide-c-in-loop-c.ensures.0 c.put_byte-e-in-loop-c.ensures (omega arith)
+    (λ z. c.if-c-eq0.false (c.from-c-in-loop-c.ensures ∙ z)) c.from-c-in-loop-c.ensures c.put_byte-e-in-loop-c.ensures (omega arith)

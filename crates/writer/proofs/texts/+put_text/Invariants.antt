@@ -11,7 +11,7 @@ decreases-put_text l = l.left
 
 abbrev pub invariant-loop-c : goal.invariant-loop-c
 invariant-loop-c l =
-    Putting l.n l.head l.next (table_child l.head l.next l.left l.n l.words) (kids_in l.head l.next l.v) l.initial.out l.initial.e l.c l.out l.e
+    Putting l.n l.chains.head l.chains.next (table_child l.chains.head l.chains.next l.left l.n l.words) (kids_in l.chains.head l.chains.next l.v) l.initial.out l.initial.e l.c l.out l.e
 
 abbrev pub decreases-loop-c : goal.decreases-loop-c
 decreases-loop-c l = length l.out - l.e

@@ -1,14 +1,5 @@
 -- `writer::texts::put_row` makes the tables, from tables of zeros, and puts the text. Assumes nothing.
-use mathlib.Core.Path.{refl}
 use Rattle.writer.proofs.texts.put_row.Goals as goal
 
-pub children_chained-requires : goal.children_chained-requires
-children_chained-requires c = (c.requires.0, refl, refl)
-
 pub put_whole-requires : goal.put_whole-requires
-put_whole-requires c =
-    let pre = c.requires in
-    (pre.0, c.children_chained.ensures, pre.1, pre.2)
-
-pub returns : goal.returns
-returns c = c.put_whole.ensures
+put_whole-requires c = (c.fill.ensures, c.requires.0, c.requires.1)

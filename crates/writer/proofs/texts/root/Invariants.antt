@@ -1,11 +1,6 @@
 -- `writer::texts::root` finds the root: it is at the place or ahead of it. Assumes nothing.
-use Prim.Native.Nat.{◌-◌}
-use Rattle.trees.specs.Rows.{nodes}
 use Rattle.writer.specs.Putting.{RootAhead}
 use Rattle.writer.proofs.texts.root.Given as goal
 
 abbrev pub invariant-loop-v : goal.invariant-loop-v
-invariant-loop-v l = RootAhead l.n l.row l.v
-
-abbrev pub decreases-loop-v : goal.decreases-loop-v
-decreases-loop-v l = nodes l.row - l.v
+invariant-loop-v l = RootAhead l.tree.n l.tree.row.now l.v

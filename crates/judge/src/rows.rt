@@ -1,0 +1,53 @@
+// Rows of which it is known what they are, each with its number of samples. Whoever makes one shows that it is so.
+ghost use Rattle.std.specs.Prelude.{◌≡◌, true};
+ghost use Rattle.trees.specs.Checks.{judged};
+ghost use Rattle.trees.specs.Valid.{is_accepted, standard};
+ghost use Rattle.trees.specs.Falls.{Falls};
+
+// A valid row: one tree over n samples (RULES 2).
+#[derive(Clone, Copy)]
+pub struct ValidRow<'a> {
+    pub n: usize,
+    pub row: &'a [u16],
+    ghost valid: { is_accepted (judged n row.now) ≡ true },
+}
+
+// A row whose parents have smaller numbers.
+#[derive(Clone, Copy)]
+pub struct FallingRow<'a> {
+    pub n: usize,
+    pub row: &'a [u16],
+    ghost falls: { Falls n row.now },
+}
+
+// A valid row in standard numbering (RULES 4).
+#[derive(Clone, Copy)]
+pub struct StandardRow<'a> {
+    pub n: usize,
+    pub row: &'a [u16],
+    ghost standard: { standard n row.now ≡ true },
+}
+
+impl<'a> StandardRow<'a> {
+    // The row, whose parents have smaller numbers.
+    pub fn falling(self) -> FallingRow<'a>
+        ensures samples { result.n ≡ self.entry.n }
+        ensures row { result.row ≡ self.entry.row }
+    {
+        FallingRow {
+            n: self.n,
+            row: self.row,
+        }
+    }
+
+    // The row, as a valid one.
+    pub fn valid(self) -> ValidRow<'a>
+        ensures samples { result.n ≡ self.entry.n }
+        ensures row { result.row ≡ self.entry.row }
+    {
+        ValidRow {
+            n: self.n,
+            row: self.row,
+        }
+    }
+}

@@ -1,6 +1,0 @@
--- `study::checks::study_given` answers check 2. Assumes nothing.
-use Rattle.study.proofs.checks.study_given.Goals as goal
-
-pub returns : goal.returns
-returns c =
-    rw (← c.well_formed-2.ensures) c.line.ensures
