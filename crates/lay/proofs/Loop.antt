@@ -16,6 +16,10 @@ use Rattle.scan.specs.declared.numbers.Number.{Number}
 use Rattle.scan.specs.Scanning.{Lone, Opens, Stuck}
 use Rattle.lay.specs.declared.keep.Kept.{Kept}
 use Rattle.lay.specs.declared.tables.Standing.{Standing}
+use Rattle.trees.proofs.BoolLaws.{decide}
+use Rattle.std.proofs.lemmas.Bool.{eqb-false}
+use Rattle.std.specs.Prelude.{eqb}
+use Rattle.lay.specs.Laying.{node_of}
 use Rattle.lay.proofs.LayLaws.{grow_few, next_grown}
 use Rattle.lay.specs.Keeping.{LaidTo, Laid, Takes, Parts, Closed, After, Paired}
 use Rattle.lay.proofs.InsideLaws.{inside_again, inside_closes, inside_unclosed, inside_ends, inside_stuck}
@@ -59,7 +63,7 @@ module _ (l : List ℕ) (p d : ℕ) (kept₀ : Kept) (row₀ : List ℕ) (marks�
     -- at a byte: a comma
     module _ (b : ℕ) (i : b ≡ get_or l e 0) (c : b ≡ comma_byte) where
       pub loop_again : (r : ℕ) (kept₂ : Kept) (row₂ : List ℕ) → Parts v kept₁ row₁ r kept₂ row₂
-          → Paired l p d kept₀ row₀ marks₀ (e + 1) r kept₂ row₂ marks₁
+          → Paired l p d kept₀ row₀ marks₀ (e + 1) r kept₂ row₂ marks₁ × (1 ≤ r)
       unfolding inside_again
       loop_again r kept₂ row₂ q =
           let low : 1 ≤ kept₂.next = omega (
@@ -71,11 +75,15 @@ module _ (l : List ℕ) (p d : ℕ) (kept₀ : Kept) (row₀ : List ℕ) (marks�
             P.along.low,
           ) in
           let A = after_comma f kept₀ row₀ marks₀ v kept₁ row₁ marks₁ after r kept₂ row₂ q low in
-          record {
-            some = P.some;
-            inside = inside_again l p d j e P.some P.inside L.whole (sym i ∙ c);
-            along = A;
-          }
+          let named : 1 ≤ node_of v kept₁.next = ⊎_elim (λ z. rw z (omega (arith, L.lays.next, (grow_few L.whole.tree kept.next).0, P.along.low)))
+          (λ z. rw z (omega (arith, eqb-false v 0 z))) (decide (eqb v 0)) in (
+            record {
+              some = P.some;
+              inside = inside_again l p d j e P.some P.inside L.whole (sym i ∙ c);
+              along = A;
+            },
+            omega (arith, q.node, named),
+          )
 
     -- at another byte: the closing bracket with what follows it, or a stop
     pub loop_closes : (r : Result ℕ Stop) (kept₂ : Kept) (row₂ : List ℕ) → (get_or l e 0 ≡ comma_byte → ⊥) → Closed l e v kept₁ row₁ r kept₂ row₂

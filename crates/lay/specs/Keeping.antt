@@ -1,6 +1,6 @@
 -- What a reading keeps, and what a subtree, a sample, a comma and a closing bracket do to it and to the row and the
 -- marks.
-use Rattle.std.specs.Prelude.{ℕ, ◌+◌, ◌≤◌, ◌<◌, ◌≡◌, ◌⊎◌, cond, List, [], eqb, ltb, length, get_or, set, Result, Ok, Err}
+use Rattle.std.specs.Prelude.{ℕ, ◌+◌, ◌≤◌, ◌<◌, ◌≡◌, ◌⊎◌, cond, List, [], eqb, ltb, length, get_or, set, Option, None, Some, Result, Ok, Err}
 use Rattle.trees.specs.Checks.{most_samples}
 use Rattle.trees.specs.Tables.{table_words}
 use Rattle.newick.specs.Tree.{Tree, Forest, Stack, depth, Held, frame}
@@ -48,6 +48,16 @@ Laid l p d kept row marks (Ok e) kept' row' marks' = LaidTo l p d kept row marks
 Laid l p d kept row marks (Err q) kept' row' marks' = Stuck l p d q.at
 
 -- ---- the steps
+
+-- the number of a pair's node, or 0 while the pair has none
+abbrev pub number : Option ℕ → ℕ
+number None = 0
+number (Some v) = v
+
+-- no node has the number 0
+abbrev pub Named : Option ℕ → Type 0
+Named None = Unit {0}
+Named (Some v) = 1 ≤ v
 
 -- a sample
 pub record Takes (x : ℕ) (kept : Kept) (marks : List Standing) (kept' : Kept) (marks' : List Standing) : Type 0 where

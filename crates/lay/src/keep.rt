@@ -1,10 +1,9 @@
 // What a reading keeps besides the row and the marks, and how a sample, a comma and a closing bracket change it.
-ghost use Rattle.std.specs.Prelude.{◌≡◌, cond, ◌<◌, ◌≤◌, ltb};
-ghost use Rattle.trees.specs.Checks.{most_samples};
+ghost use Rattle.std.specs.Prelude.{◌≡◌, ◌<◌, ◌≤◌};
 ghost use Rattle.trees.specs.Tables.{table_words};
 ghost use Rattle.newick.specs.Grammar.{sample_bound};
-ghost use Rattle.lay.specs.Laying.{node_of, next_of, lower};
-ghost use Rattle.lay.specs.Keeping.{Takes, Parts, Shuts};
+ghost use Rattle.lay.specs.Laying.{capped};
+ghost use Rattle.lay.specs.Keeping.{number, Named, Takes, Parts, Shuts};
 
 use crate::tables::{MARKS, Marks, ROW, Row, link};
 
@@ -17,27 +16,6 @@ pub struct Kept {
     pub large: Option<usize>,
 }
 
-// The node of a pair at a comma: its own, or the next number where it has none yet.
-fn node_of(node: usize, next: usize) -> usize
-    requires { (node ≤ table_words) × (next ≤ table_words) }
-    ensures { (result ≡ node_of node next) × (result ≤ table_words) }
-{
-    if node == 0 { next } else { node }
-}
-
-// The next number that is free after a comma. None is counted on past the words of a row.
-fn next_of(node: usize, next: usize) -> usize
-    requires { next ≤ table_words }
-    ensures { (result ≡ next_of node next) × (result ≤ table_words) }
-{
-    if node == 0 && next < ROW {
-        next + 1
-    } else {
-        next
-    }
-}
-
-// A pair's node is 0 while it has none: an `Option` of it would be two words in each frame of the recursion.
 impl Kept {
     // Sample x: it stands once more, or is too large to have a mark.
     pub(crate) fn take(&mut self, x: usize, marks: &mut Marks)
@@ -51,26 +29,41 @@ impl Kept {
         self.root = x;
     }
 
-    // A comma: the subtree before it is linked to the node of its pair, which is the answer.
-    pub(crate) fn comma(&mut self, node: usize, row: &mut Row) -> usize
-        requires { (node ≤ table_words) × (self.old.root < sample_bound) × (self.old.next ≤ table_words) }
-        ensures { Parts node self.old row.old result self.new row.new }
+    // The next number that is free, handed out. None is counted on past the words of a row.
+    fn fresh(&mut self) -> usize
+        requires { self.old.next ≤ table_words }
+        ensures value { result ≡ self.old.next }
+        ensures counted { self.new ≡ record self.old { next = capped self.old.next } }
     {
-        let v = node_of(node, self.next);
-        self.next = next_of(node, self.next);
+        let node = self.next;
+        if node < ROW {
+            self.next = node + 1;
+        }
+        node
+    }
+
+    // A comma: the subtree before it is linked to the node of its pair, which is the answer: its own, or a fresh one.
+    pub(crate) fn comma(&mut self, node: Option<usize>, row: &mut Row) -> usize
+        requires { Named node × (number node ≤ table_words) × (self.old.root < sample_bound) × (self.old.next ≤ table_words) }
+        ensures { Parts (number node) self.old row.old result self.new row.new }
+    {
+        let v = match node {
+            Some(v) => v,
+            None => self.fresh(),
+        };
         link(self.root, v, row);
         v
     }
 
     // A closing bracket: the subtree before it is linked to the pair's node. A pair with one subtree has none, and adds
     // nothing to the row (RULES 14.9).
-    pub(crate) fn shut(&mut self, node: usize, row: &mut Row)
-        requires { (node ≤ table_words) × (self.old.root < sample_bound) }
-        ensures { Shuts node self.old row.old self.new row.new }
+    pub(crate) fn shut(&mut self, node: Option<usize>, row: &mut Row)
+        requires { Named node × (number node ≤ table_words) × (self.old.root < sample_bound) }
+        ensures { Shuts (number node) self.old row.old self.new row.new }
     {
-        if node != 0 {
-            link(self.root, node, row);
-            self.root = node;
+        if let Some(v) = node {
+            link(self.root, v, row);
+            self.root = v;
         }
     }
 }

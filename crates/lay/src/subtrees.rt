@@ -1,17 +1,23 @@
 // A subtree of a text, by recursion over its pairs.
-ghost use Rattle.std.specs.Prelude.{◌≡◌, ◌<◌, ◌≤◌, length};
+ghost use Rattle.std.specs.Prelude.{◌<◌, ◌≤◌, length};
 ghost use Rattle.trees.specs.Tables.{table_words};
 ghost use Rattle.newick.specs.Grammar.{sample_bound};
-ghost use Rattle.lay.specs.Keeping.{Closed, Laid};
+ghost use Rattle.lay.specs.Keeping.{number, Named, Closed, Laid};
 
 use crate::keep::Kept;
 use crate::tables::{Marks, Row};
 use scan::{Start, Stop, closes, look, starts};
 
 // The closing bracket of a pair at e, and what follows it.
-fn close(s: &[u8], e: usize, node: usize, kept: &mut Kept, row: &mut Row) -> Result<usize, Stop>
-    requires { (node ≤ table_words) × (kept.old.root < sample_bound) }
-    ensures { Closed s.now e node kept.old row.old result kept.new row.new }
+fn close(
+    s: &[u8],
+    e: usize,
+    node: Option<usize>,
+    kept: &mut Kept,
+    row: &mut Row,
+) -> Result<usize, Stop>
+    requires { Named node × (number node ≤ table_words) × (kept.old.root < sample_bound) }
+    ensures { Closed s.now e (number node) kept.old row.old result kept.new row.new }
 {
     if look(s, e) != b')' {
         return Err(Stop { at: e });
@@ -21,7 +27,8 @@ fn close(s: &[u8], e: usize, node: usize, kept: &mut Kept, row: &mut Row) -> Res
     Ok(end)
 }
 
-// A subtree from a place on, in which `left` brackets may stand in one another.
+// A subtree from a place on, in which `left` brackets may stand in one another. What is kept, the row and the marks are
+// lent apart: each step has only what it changes.
 pub fn subtree(
     s: &[u8],
     at: usize,
@@ -41,13 +48,13 @@ pub fn subtree(
         Start::Pair(a) => a,
     };
     let mut j = a + 1;
-    let mut node = 0;
+    let mut node = None;
     loop {
         let e = subtree(s, j, left - 1, kept, row, marks)?;
         if look(s, e) != b',' {
             return close(s, e, node, kept, row);
         }
-        node = kept.comma(node, row);
+        node = Some(kept.comma(node, row));
         j = e + 1;
     }
 }

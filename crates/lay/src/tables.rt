@@ -1,14 +1,13 @@
 // The row and the marks of the samples, which are lent to a reading.
-ghost use Rattle.std.specs.Prelude.{◌≡◌, ◌+◌, ◌<◌, ◌≤◌, get_or, set};
+ghost use Rattle.std.specs.Prelude.{◌≡◌, ◌+◌, ◌<◌, ◌≤◌, set};
 ghost use Rattle.trees.specs.Rows.{root_mark};
 ghost use Rattle.newick.specs.Grammar.{sample_bound};
 ghost use Rattle.lay.specs.Laying.{once_more};
-ghost use Rattle.lay.specs.declared.tables.Standing.TheVariants.{Never};
 
 use judge::MOST_SAMPLES;
 
 // The words of the longest row.
-pub const ROW: usize = 1024;
+pub const ROW: usize = 2 * MOST_SAMPLES;
 
 pub type Row = [u16; ROW];
 
