@@ -1,13 +1,13 @@
--- `writer::texts::put_whole` puts the root's text and the semicolon. Assumes nothing.
+-- `writer::texts::Pen::put_whole` puts the root's text and the semicolon. Assumes nothing.
 use native.Mathlib.Omega.{arith}
 use Rattle.writer.specs.Lengths.{wanted_by}
 use Rattle.writer.proofs.RowLaws.{root_charted, root_room, last_room, whole_put}
-use Rattle.writer.proofs.texts.put_whole.Goals as goal
+use Rattle.writer.proofs.texts.Pen.put_whole.Goals as goal
 
 pub put_text-end-requires : goal.put_text-end-requires
 put_text-end-requires c =
     let pre = c.requires in
-    let w = wanted_by c.args.words.now in (
+    let w = wanted_by c.args.self.now.words.now in (
       root_charted pre.0 pre.1 w c.root.ensures c.nodes.ensures,
       pre.2,
       omega (arith, root_room pre.0 pre.1 w c.root.ensures c.nodes.ensures c.args.out.now pre.3),
