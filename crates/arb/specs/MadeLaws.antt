@@ -1,5 +1,5 @@
 -- Calls as they were made: the same calls on equal words gave back the same, and equal groups were stored as equal words. Assumes nothing.
-use Rattle.std.specs.Prelude.{ℕ, ◌≤◌, ◌≡◌, refl, ◌↔◌, List, [], ◌∷◌, map}
+use Rattle.std.specs.Prelude.{Ok, ℕ, ◌≤◌, ◌≡◌, refl, ◌↔◌, List, [], ◌∷◌, map}
 use Rattle.std.proofs.Common.{sym, ap, ◌∙◌}
 use Rattle.std.proofs.Math.Option.{some}
 use Rattle.trees.specs.Checks.{Verdict}

@@ -12,11 +12,11 @@ ghost use Rattle.sides.specs.Counters.{tally_at};
 ghost use Rattle.counters.specs.Rounds.{Tied};
 ghost use Rattle.candidates.specs.Candidates.{Candidates, Enough, Agreed};
 
-use count::{Held, bare, holders, marks, references, run_row};
+use count::{Held, bare, holders, marks, references};
 use counters::round;
 use judge::nodes;
-use merge::merge_carried;
-use passes::{TABLE, Table, ranks};
+use merge::{Side, merge_carried};
+use passes::{Ranks, TABLE, Table};
 
 // Counts run i at the candidates: their row and their counters become those after it. `spare` is a buffer to work in.
 fn take_in(study: Held, i: usize, row: &mut [u16], counter: &mut Table, spare: &mut [u16])
@@ -25,7 +25,7 @@ fn take_in(study: Held, i: usize, row: &mut [u16], counter: &mut Table, spare: &
     ensures { Tied study.entry.n (tally_at study.entry.n (runs study.entry.words.now) (i + 1)) row.new counter.new }
 {
     let mut fresh: Table = [0; TABLE];
-    round(study.n, run_row(study, i), row, counter, &mut fresh, spare);
+    round(study.n, study.run_row(i), row, counter, &mut fresh, spare);
     row.copy_from_slice(spare);
     *counter = fresh;
 }
@@ -55,13 +55,13 @@ fn keep_groups(
     ensures { CarriedOver n row.now keep.now row.now keep.now
         from.now to.old to.new out.new }
 {
-    let mut size: Table = [0; TABLE];
-    let mut off: Table = [0; TABLE];
-    let mut low: Table = [0; TABLE];
-    ranks(n, row, &mut size, &mut off, &mut low);
-    merge_carried(
-        n, row, &size, &low, keep, row, &size, &low, keep, from, to, out,
-    );
+    let ranks = Ranks::of(n, row);
+    let side = Side {
+        row,
+        ranks: &ranks,
+        keep,
+    };
+    merge_carried(n, &side, &side, from, to, out);
 }
 
 // A row that has every group which can be shown at threshold t: the first run, where it holds each of them; else the
@@ -71,7 +71,7 @@ fn enough(study: Held, t: usize, row: &mut [u16], spare: &mut [u16])
     ensures { Enough study.entry.n study.entry.words.now t row.new }
 {
     if references(t, study.k) == 1 {
-        row.copy_from_slice(run_row(study, 0));
+        row.copy_from_slice(study.run_row(0));
         return;
     }
     candidates(study, row, spare);

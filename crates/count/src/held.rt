@@ -1,9 +1,11 @@
 // A study as a count reads it.
-ghost use Rattle.std.specs.Prelude.{◌≡◌, true};
+ghost use Rattle.std.specs.Prelude.{◌≡◌, ◌<◌, true};
+ghost use Rattle.trees.specs.Valid.{Standard};
 ghost use Rattle.runs.specs.Words.{samples, in_force};
-ghost use Rattle.runs.specs.Formed.{well_formed};
+ghost use Rattle.runs.specs.Formed.{well_formed, Formed};
+ghost use Rattle.count.specs.Studies.{row_at};
 
-use slots::{in_force, samples};
+use slots::{in_force, samples, slot_row, slot_start};
 
 // A well-formed study: its words, over n samples, with k runs in force.
 #[derive(Clone, Copy, Debug)]
@@ -17,9 +19,8 @@ pub struct Held<'a> {
 }
 
 impl<'a> Held<'a> {
-    ghost use Rattle.runs.specs.Formed.{Formed};
-
     // The study that well-formed words are.
+    #[tactic(auto, using(runs::proofs::SlotLaws::formed_long))]
     pub fn of(words: &'a [u16]) -> Held<'a>
         requires { Formed words.now }
         ensures { (result.words.now ≡ words.now) × (result.n ≡ samples words.now) × (result.k ≡ in_force words.now) }
@@ -29,5 +30,14 @@ impl<'a> Held<'a> {
             n: samples(words),
             k: in_force(words),
         }
+    }
+
+    // The row of run j.
+    pub fn run_row(self, j: usize) -> &'a [u16]
+        requires { j < self.k }
+        ensures row { result.now ≡ row_at self.entry.n self.entry.words.now j }
+        ensures standard { Standard self.entry.n result.now }
+    {
+        slot_row(self.words, self.n, slot_start(self.n, j))
     }
 }

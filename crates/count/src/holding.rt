@@ -5,23 +5,12 @@ ghost use Rattle.trees.specs.Valid.{Standard};
 ghost use Rattle.trees.specs.Tables.{Tabled, table_words};
 ghost use Rattle.trees.specs.Mates.{no_mate, Tables};
 ghost use Rattle.runs.specs.Words.{runs, most_runs};
-ghost use Rattle.count.specs.Studies.{row_at};
 ghost use Rattle.count.specs.Holders.{holders_at, with_mate, with_run, Under};
 
 use crate::held::Held;
 use judge::nodes;
-use mates::{NO_MATE, mates, tables};
+use mates::{Chart, NO_MATE, mates};
 use passes::{TABLE, Table};
-use slots::{slot_row, slot_start};
-
-// The row of run j of a study.
-pub fn run_row<'a>(study: Held<'a>, j: usize) -> &'a [u16]
-    requires { j < study.k }
-    ensures row { result.now ≡ row_at study.entry.n study.entry.words.now j }
-    ensures standard { Standard study.entry.n result.now }
-{
-    slot_row(study.words, study.n, slot_start(study.n, j))
-}
 
 // A count, and one more where there is a mate.
 fn with_mate(held: u16, mate: u16) -> u16
@@ -42,21 +31,12 @@ fn tally(n: usize, m: usize, mate: &Table, holders: &mut Table)
 }
 
 // Counts one run, whose row this is: one more for each inner group of the reference that it holds.
-fn count_run(
-    n: usize,
-    reference: &[u16],
-    size: &Table,
-    low: &Table,
-    start: &Table,
-    row: &[u16],
-    holders: &mut Table,
-)
-    requires { Standard n reference.now × Tables n reference.now size.now low.now start.now × Standard n row.now
-        × Under most_runs n (nodes reference.now) holders.old }
+fn count_run(n: usize, reference: &[u16], chart: &Chart, row: &[u16], holders: &mut Table)
+    requires { Standard n reference.now × Tables n reference.now chart.now.ranks.size chart.now.ranks.low chart.now.start
+        × Standard n row.now × Under most_runs n (nodes reference.now) holders.old }
     ensures { Tabled (with_run (holds n) n reference.now row.now holders.old) n (nodes reference.now) holders.new }
 {
-    let mut mate: Table = [0; TABLE];
-    mates(n, reference, size, low, start, row, &mut mate);
+    let mate = mates(n, reference, chart, row);
     tally(n, nodes(reference), &mate, holders);
 }
 
@@ -67,21 +47,10 @@ pub fn holders(study: Held, reference: &[u16]) -> Table
         study.entry.n (nodes reference.now) result }
 {
     let n = study.n;
-    let mut size: Table = [0; TABLE];
-    let mut low: Table = [0; TABLE];
-    let mut start: Table = [0; TABLE];
-    tables(n, reference, &mut size, &mut low, &mut start);
+    let chart = Chart::of(n, reference);
     let mut holders: Table = [0; TABLE];
     for j in 0..study.k {
-        count_run(
-            n,
-            reference,
-            &size,
-            &low,
-            &start,
-            run_row(study, j),
-            &mut holders,
-        );
+        count_run(n, reference, &chart, study.run_row(j), &mut holders);
     }
     holders
 }

@@ -7,6 +7,6 @@ mod plain;
 mod rule;
 
 pub use held::Held;
-pub use holding::{holders, run_row};
+pub use holding::holders;
 pub use plain::{agreed_row, bare};
 pub use rule::{marks, references};

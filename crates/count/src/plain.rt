@@ -8,7 +8,7 @@ ghost use Rattle.runs.specs.Words.{runs};
 ghost use Rattle.count.specs.Plain.{bare_row, accepted};
 
 use crate::held::Held;
-use crate::holding::{holders, run_row};
+use crate::holding::holders;
 use crate::rule::{marks, references};
 use judge::{ROOT_MARK, nodes};
 use merge::merge;
@@ -48,7 +48,7 @@ fn take_in(study: Held, t: usize, i: usize, out: &mut [u16], spare: &mut [u16])
     ensures { out.new ≡ accepted t study.entry.n study.entry.words.now (i + 1) }
 {
     let n = study.n;
-    let row = run_row(study, i);
+    let row = study.run_row(i);
     let keep = marks(n, nodes(row), t, study.k, &holders(study, row));
     merge(n, out, &[true; TABLE], row, &keep, spare);
     out.copy_from_slice(spare);

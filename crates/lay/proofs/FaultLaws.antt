@@ -1,7 +1,7 @@
 -- The marks and the lowest number that a reading keeps decide check 18; where it passes, the row that is laid renumbers to the row of the
 -- text. Assumes nothing.
-use Rattle.std.specs.Prelude.{ℕ, zero, suc, ◌+◌, ◌≤◌, ◌<◌, max, ◌≡◌, refl, ◌⊎◌, List, [], ◌∷◌, Bool, true, false, not, cond, eqb, ltb, leb, length, get_or, set, replicate}
-use Rattle.std.proofs.Common.{zero-le, sym, ap, ◌∙◌, inl, inr, ⊎_elim, arith, length-set, get_or-set_same, get_or-set_other, ltb-true, ltb-false, le-ltb, leb-true, leb-false, eqb-true, eq-eqb, ne_eqb}
+use Rattle.std.specs.Prelude.{ℕ, zero, suc, ◌+◌, ◌≤◌, ◌<◌, min, max, ◌≡◌, refl, ◌⊎◌, List, [], ◌∷◌, Bool, true, false, not, cond, eqb, ltb, leb, length, get_or, set, replicate, Option, None, Some}
+use Rattle.std.proofs.Common.{zero-le, sym, ap, subst, ◌∙◌, inl, inr, ⊎_elim, arith, length-set, get_or-set_same, get_or-set_other, ltb-true, ltb-false, le-ltb, leb-true, leb-false, eqb-true, eq-eqb, ne_eqb}
 use Rattle.std.proofs.lemmas.List.{length-replicate, get_or-replicate}
 use Rattle.std.proofs.lemmas.Bool.{false≢true, eqb-false}
 use Rattle.std.proofs.Math.Nat.{le-max_left, le-max_right}
@@ -15,45 +15,57 @@ use Rattle.newick.specs.Meaning.{samples, times, amiss, above}
 use Rattle.newick.specs.ReadCalls.{check18, row_in}
 use Rattle.newick.proofs.FaultLaws.{above_more, stands_exactly}
 use Rattle.newick.proofs.RoundTrip.{row-in}
-use Rattle.newick.specs.Grammar.{sample_bound}
 use Rattle.lay.specs.declared.tables.Standing.{Standing}
 use Rattle.lay.specs.declared.tables.Standing.TheVariants.{Never, Repeated}
 use Rattle.lay.specs.Laying.{once_more, tally, lower, least, grow, laid_row}
-use Rattle.lay.specs.Faults.{or_at, below_place, due, told_by, bad_mark}
+use Rattle.lay.specs.Faults.{or_at, place_of, due, told_by, bad_mark}
 use Rattle.lay.proofs.LaidRow.{laid_groups}
 
 -- ---- the lowest number
 
-pub record Least (n : ℕ) (xs : List ℕ) (b m : ℕ) : Type 0 where
-  pub most : m ≤ b
-  pub none : (j : ℕ) → n ≤ j → j < m → times j xs ≡ 0
-  pub some : (m ≡ b) ⊎ ((n ≤ m) × (1 ≤ times m xs))
+-- a number before another, where there is one
+abbrev Before : Option ℕ → ℕ → Type 0
+Before None j = Unit {0}
+Before (Some m) j = j < m
 
-pub least_finds : (n : ℕ) (xs : List ℕ) (b : ℕ) → Least n xs b (least n xs b)
+pub record Least (n : ℕ) (xs : List ℕ) (b m : Option ℕ) : Type 0 where
+  pub most : (j : ℕ) → Before m j → Before b j
+  pub none : (j : ℕ) → n ≤ j → Before m j → times j xs ≡ 0
+  pub some : (m ≡ b) ⊎ ((k : ℕ) × (m ≡ Some k) × (n ≤ k) × (1 ≤ times k xs))
+
+pub least_finds : (n : ℕ) (xs : List ℕ) (b : Option ℕ) → Least n xs b (least n xs b)
 unfolding least weigh
-least_finds n [] b = record { most = omega arith; none = λ j h k. refl; some = inl refl }
-least_finds n (x ∷ xs) b = go (decide (ltb x n)) (decide (ltb x b)) (λ b'. least_finds n xs b')
+least_finds n [] b = record { most = λ j u. u; none = λ j h u. refl; some = inl refl }
+least_finds n (x ∷ xs) b = go (decide (ltb x n)) b (λ b'. least_finds n xs b')
   where
     off : (j : ℕ) → (j ≡ x → ⊥) → times j xs ≡ 0 → cond (eqb j x) 1 0 + times j xs ≡ 0
     off j d e = rw (ne_eqb j x d) (omega (arith, e))
 
-    go : (ltb x n ≡ true) ⊎ (ltb x n ≡ false) → (ltb x b ≡ true) ⊎ (ltb x b ≡ false) → ((b' : ℕ) → Least n xs b' (least n xs b'))
+    this : (k : ℕ) → k ≡ x → 1 ≤ cond (eqb k x) 1 0 + times k xs
+    this k q = rw (eq-eqb k x q) (omega arith)
+
+    later : {m b : Option ℕ} → (k : ℕ) × (m ≡ Some k) × (n ≤ k) × (1 ≤ times k xs)
+        → (m ≡ b) ⊎ ((k : ℕ) × (m ≡ Some k) × (n ≤ k) × (1 ≤ cond (eqb k x) 1 0 + times k xs))
+    later q = inr (q.0, q.1, q.2, omega (arith, q.3))
+
+    go : (ltb x n ≡ true) ⊎ (ltb x n ≡ false) → (b : Option ℕ) → ((b' : Option ℕ) → Least n xs b' (least n xs b'))
         → Least n (x ∷ xs) b (least n xs (cond (ltb x n) b (lower b x)))
-    go (inl e) d f = let h = f b in rw e (record {
+    go (inl e) b f = let h = f b in rw e (record {
       most = h.most;
-      none = λ j i k. off j (λ q. omega (arith, ltb-true x n e)) (h.none j i k);
-      some = ⊎_elim (λ q. inl q) (λ q. inr (q.0, omega (arith, q.1))) h.some;
+      none = λ j i u. off j (λ q. omega (arith, ltb-true x n e)) (h.none j i u);
+      some = ⊎_elim (λ q. inl q) later h.some;
     })
-    go (inr e) (inl d) f = let h = f x in rw (e, d) (record {
-      most = omega (arith, h.most, ltb-true x b d);
-      none = λ j i k. off j (λ q. omega (arith, h.most)) (h.none j i k);
-      some = ⊎_elim (λ q. inr (omega (arith, q, ltb-false x n e), rw (eq-eqb (least n xs x) x q) (omega arith)))
-          (λ q. inr (q.0, omega (arith, q.1))) h.some;
+    go (inr e) None f = let h = f (Some x) in rw e (record {
+      most = λ j u. tt;
+      none = λ j i u. off j (λ q. omega (arith, h.most j u)) (h.none j i u);
+      some = ⊎_elim (λ q. inr (x, q, ltb-false x n e, this x refl)) later h.some;
     })
-    go (inr e) (inr d) f = let h = f b in rw (e, d) (record {
-      most = h.most;
-      none = λ j i k. off j (λ q. omega (arith, h.most, ltb-false x b d)) (h.none j i k);
-      some = ⊎_elim (λ q. inl q) (λ q. inr (q.0, omega (arith, q.1))) h.some;
+    go (inr e) (Some b) f = let h = f (Some (min b x)) in rw e (record {
+      most = λ j u. omega (arith, h.most j u);
+      none = λ j i u. off j (λ q. omega (arith, h.most j u)) (h.none j i u);
+      some = ⊎_elim (λ q. ⊎_elim
+          (λ d. let z : min b x ≡ x = omega (arith, ltb-true x b d) in inr (x, q ∙ ap Some z, ltb-false x n e, this x refl))
+          (λ d. let z : min b x ≡ b = omega (arith, ltb-false x b d) in inl (q ∙ ap Some z)) (decide (ltb x b))) later h.some;
     })
 
 -- ---- the marks
@@ -100,16 +112,15 @@ due_most n x = go (ltb x n)
     go true = omega arith
     go false = omega arith
 
-module _ (n : ℕ) (most : n ≤ most_samples) (t : Tree) (marks : List Standing) (e : marks ≡ tally (samples t) (replicate most_samples Never))
-    (h : (x : ℕ) → 1 ≤ times x (samples t) → x < sample_bound) where
+module _ (n : ℕ) (most : n ≤ most_samples) (t : Tree) (marks : List Standing) (e : marks ≡ tally (samples t) (replicate most_samples Never)) where
   abbrev xs : List ℕ
   xs = samples t
 
-  abbrev m : ℕ
-  m = least most_samples (samples t) sample_bound
+  abbrev m : Option ℕ
+  m = least most_samples (samples t) None
 
-  L : Least most_samples xs sample_bound m
-  L = least_finds most_samples xs sample_bound
+  L : Least most_samples xs None m
+  L = least_finds most_samples xs None
 
   -- a mark tells whether a sample is amiss; a number that has none is amiss if it stands
   mark_tells : (x : ℕ) → x < most_samples → bad_mark n marks x ≡ amiss n xs x
@@ -135,38 +146,39 @@ module _ (n : ℕ) (most : n ≤ most_samples) (t : Tree) (marks : List Standing
       go (inr d) (inr w) = absurd (let z : times x xs ≡ 0 = omega (arith, leb-false 1 (times x xs) w) in
           false≢true (sym (let q : amiss n xs x ≡ false = rw (z, d) refl in q) ∙ a))
 
-  pub place18 : (check18 n t).fault ≡ or_at (first (bad_mark n marks) (range 0 most_samples)) (below_place sample_bound m)
-  place18 = go (scan (bad_mark n marks) 0 most_samples) (decide (ltb m sample_bound))
+  -- a number without a mark stands nowhere before m
+  none : (z : Option ℕ) → m ≡ z → (j : ℕ) → most_samples ≤ j → Before z j → times j xs ≡ 0
+  none z q j i u = L.none j i (subst (λ (o : Option ℕ). Before o j) (sym q) u)
+
+  -- what is found where no mark is bad: m, if there is one
+  unmarked : (z : Option ℕ) → m ≡ z → ((j : ℕ) → 0 ≤ j → j < most_samples → bad_mark n marks j ≡ false) → (check18 n t).fault ≡ place_of z
+  unmarked None q f = nowhere_first (amiss n xs) 0 (max n (above xs))
+      (λ j a b. ⊎_elim (λ w. sym (mark_tells j (ltb-true j most_samples w)) ∙ f j a (ltb-true j most_samples w))
+      (λ w. far j (ltb-false j most_samples w) (none None q j (ltb-false j most_samples w) tt)) (decide (ltb j most_samples)))
+  unmarked (Some k) q f = lowest_first (amiss n xs) 0 (max n (above xs)) k (⊎_elim (λ (z : m ≡ None). cc) hit L.some)
+    where
+      hit : (i : ℕ) × (m ≡ Some i) × (most_samples ≤ i) × (1 ≤ times i xs) → Lowest (amiss n xs) 0 (max n (above xs)) k
+      hit z = let e : z.0 ≡ k = cc in let w = rw e at (amiss_far z.0 z.2 z.3) in record {
+        from = zero-le;
+        to = amiss_within k w;
+        passes = w;
+        none = λ j a b. ⊎_elim (λ u. sym (mark_tells j (ltb-true j most_samples u)) ∙ f j a (ltb-true j most_samples u))
+            (λ u. far j (ltb-false j most_samples u) (none (Some k) q j (ltb-false j most_samples u) b)) (decide (ltb j most_samples));
+      }
+
+  pub place18 : (check18 n t).fault ≡ or_at (first (bad_mark n marks) (range 0 most_samples)) (place_of m)
+  place18 = go (scan (bad_mark n marks) 0 most_samples)
     where
       go : Scan (bad_mark n marks) 0 most_samples (first (bad_mark n marks) (range 0 most_samples))
-          → (ltb m sample_bound ≡ true) ⊎ (ltb m sample_bound ≡ false)
-          → (check18 n t).fault ≡ or_at (first (bad_mark n marks) (range 0 most_samples)) (below_place sample_bound m)
-      go (found i q l) d =
+          → (check18 n t).fault ≡ or_at (first (bad_mark n marks) (range 0 most_samples)) (place_of m)
+      go (found i q l) =
           let w = sym (mark_tells i l.to) ∙ l.passes in rw q (lowest_first (amiss n xs) 0 (max n (above xs)) i (record {
             from = l.from;
             to = amiss_within i w;
             passes = w;
             none = λ j a b. sym (mark_tells j (omega (arith, l.to))) ∙ l.none j a b;
           }))
-      go (missed q f) (inl d) = rw (q, d) (lowest_first (amiss n xs) 0 (max n (above xs)) m (hit L.some))
-        where
-          hit : (m ≡ sample_bound) ⊎ ((most_samples ≤ m) × (1 ≤ times m xs)) → Lowest (amiss n xs) 0 (max n (above xs)) m
-          hit (inl z) = absurd (omega (arith, z, ltb-true m sample_bound d))
-          hit (inr z) = let w = amiss_far m z.0 z.1 in record {
-            from = zero-le;
-            to = amiss_within m w;
-            passes = w;
-            none = λ j a b. ⊎_elim (λ u. sym (mark_tells j (ltb-true j most_samples u)) ∙ f j a (ltb-true j most_samples u))
-                (λ u. far j (ltb-false j most_samples u) (L.none j (ltb-false j most_samples u) b)) (decide (ltb j most_samples));
-          }
-      go (missed q f) (inr d) = rw (q, d) (nowhere_first (amiss n xs) 0 (max n (above xs))
-          (λ j a b. ⊎_elim (λ w. sym (mark_tells j (ltb-true j most_samples w)) ∙ f j a (ltb-true j most_samples w))
-          (λ w. far j (ltb-false j most_samples w) (none j (ltb-false j most_samples w))) (decide (ltb j most_samples))))
-        where
-          none : (j : ℕ) → most_samples ≤ j → times j xs ≡ 0
-          none j i = ⊎_elim (λ w. let u = leb-true 1 (times j xs) w in
-              absurd (omega (arith, h j u, u, L.none j i (omega (arith, h j u, ltb-false m sample_bound d)))))
-              (λ w. omega (arith, leb-false 1 (times j xs) w)) (decide (leb 1 (times j xs)))
+      go (missed q f) = rw q (unmarked m refl f)
 
 -- ---- where 18 passes, each sample stands once, and what was laid is the row of the tree
 

@@ -1,5 +1,5 @@
 -- What has been counted, found and linked over one list and then over another. Assumes nothing.
-use Rattle.std.specs.Prelude.{ℕ, suc, ◌≡◌, refl, List, [], ◌∷◌, ◌++◌, cond, ltb, get_or, set}
+use Rattle.std.specs.Prelude.{ℕ, suc, ◌≡◌, refl, List, [], ◌∷◌, ◌++◌, cond, ltb, get_or, set, Option}
 use Rattle.lay.specs.declared.tables.Standing.{Standing}
 use Rattle.lay.specs.declared.tables.Standing.TheVariants.{Never}
 use Rattle.lay.specs.Laying.{Link, sets, once_more, tally, lower, least}
@@ -14,7 +14,7 @@ unfolding tally
 tally_append [] ys marks = refl
 tally_append (x ∷ xs) ys marks = tally_append xs ys (set marks x (once_more (get_or marks x Never)))
 
-pub least_append : (n : ℕ) (xs ys : List ℕ) (b : ℕ) → least n (xs ++ ys) b ≡ least n ys (least n xs b)
+pub least_append : (n : ℕ) (xs ys : List ℕ) (b : Option ℕ) → least n (xs ++ ys) b ≡ least n ys (least n xs b)
 unfolding least
 least_append n [] ys b = refl
 least_append n (x ∷ xs) ys b = least_append n xs ys (cond (ltb x n) b (lower b x))

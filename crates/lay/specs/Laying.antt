@@ -1,7 +1,7 @@
 -- How a reading lays the nodes of a tree into a row: a node is made at the first comma of a pair, and each child is
 -- linked to its pair's node
 -- at the comma or bracket behind it. A pair with one subtree makes no node. Assumes nothing: these are definitions.
-use Rattle.std.specs.Prelude.{ℕ, suc, ◌+◌, List, [], ◌∷◌, ◌++◌, cond, eqb, ltb, get_or, set}
+use Rattle.std.specs.Prelude.{ℕ, suc, ◌+◌, List, [], ◌∷◌, ◌++◌, min, cond, eqb, ltb, get_or, set, Option, None, Some}
 use Rattle.trees.specs.Lists.{zeros}
 use Rattle.trees.specs.Rows.{root_mark}
 use Rattle.trees.specs.Checks.{row_words}
@@ -91,11 +91,13 @@ unfoldable pub tally : List ℕ → List Standing → List Standing
 tally [] marks = marks
 tally (x ∷ xs) marks = tally xs (set marks x (once_more (get_or marks x Never)))
 
--- the lowest number that is not below n, or b where that is lower
-abbrev pub lower : ℕ → ℕ → ℕ
-lower b x = cond (ltb x b) x b
+-- the lower of a number, where there is one, and another
+abbrev pub lower : Option ℕ → ℕ → Option ℕ
+lower None x = Some x
+lower (Some b) x = Some (min b x)
 
-unfoldable pub least : ℕ → List ℕ → ℕ → ℕ
+-- the lowest number of a list that is not below n, or b where that is lower
+unfoldable pub least : ℕ → List ℕ → Option ℕ → Option ℕ
 least n [] b = b
 least n (x ∷ xs) b = least n xs (cond (ltb x n) b (lower b x))
 

@@ -6,28 +6,15 @@ ghost use Rattle.newick.specs.Grammar.{sample_bound};
 ghost use Rattle.lay.specs.Laying.{node_of, next_of, lower};
 ghost use Rattle.lay.specs.Keeping.{Takes, Parts, Shuts};
 
-use crate::tables::{MARKS, Marks, ROW, Row, link, mark};
-
-// What is kept while no sample is too large: more than any sample of five digits.
-pub const NOTHING_LARGE: usize = 100000;
+use crate::tables::{MARKS, Marks, ROW, Row, link};
 
 // The topmost node of the subtree that was read last, the next number that is free, and the lowest sample that is too
-// large to have a mark.
+// large to have a mark, if there is one.
 #[derive(Clone, Copy, Debug, PartialEq, Eq)]
 pub struct Kept {
     pub root: usize,
     pub next: usize,
-    pub large: usize,
-}
-
-// The lowest number that is too large to have a mark, with x.
-fn large(b: usize, x: usize) -> usize
-    ensures { result ≡ cond (ltb x most_samples) b (lower b x) }
-{
-    if x < MARKS {
-        return b;
-    }
-    b.min(x)
+    pub large: Option<usize>,
 }
 
 // The node of a pair at a comma: its own, or the next number where it has none yet.
@@ -52,12 +39,15 @@ fn next_of(node: usize, next: usize) -> usize
 
 // A pair's node is 0 while it has none: an `Option` of it would be two words in each frame of the recursion.
 impl Kept {
-    // Sample x.
+    // Sample x: it stands once more, or is too large to have a mark.
     pub(crate) fn take(&mut self, x: usize, marks: &mut Marks)
         ensures { Takes x self.old marks.old self.new marks.new }
     {
-        mark(x, marks);
-        self.large = large(self.large, x);
+        if x < MARKS {
+            marks[x] = marks[x].once_more();
+        } else {
+            self.large = Some(self.large.unwrap_or(x).min(x));
+        }
         self.root = x;
     }
 

@@ -5,6 +5,6 @@ mod keep;
 mod subtrees;
 mod tables;
 
-pub use keep::{Kept, NOTHING_LARGE};
+pub use keep::Kept;
 pub use subtrees::subtree;
 pub use tables::{MARKS, Marks, ROW, Row, Standing, link};

@@ -20,22 +20,22 @@ pub enum Standing {
     Repeated,
 }
 
+impl Standing {
+    // What it is once the sample stands again.
+    pub(crate) fn once_more(self) -> Standing
+        ensures { result ≡ once_more self }
+    {
+        match self {
+            Standing::Never => Standing::Once,
+            Standing::Once | Standing::Repeated => Standing::Repeated,
+        }
+    }
+}
+
 // A mark for each sample that there can be: how often it stands.
 pub const MARKS: usize = MOST_SAMPLES;
 
 pub type Marks = [Standing; MARKS];
-
-// Sample x stands once more.
-pub(crate) fn mark(x: usize, marks: &mut Marks)
-    ensures { marks.new ≡ set marks.old x (once_more (get_or marks.old x Never)) }
-{
-    if x < MARKS {
-        marks[x] = match marks[x] {
-            Standing::Never => Standing::Once,
-            Standing::Once | Standing::Repeated => Standing::Repeated,
-        };
-    }
-}
 
 // The parent of a node, or the mark of the topmost one, where the node has a word.
 pub fn link(child: usize, up: usize, row: &mut Row)

@@ -1,13 +1,13 @@
 -- What a reading has kept decides check 18, and what it has laid is the row. Assumes nothing.
 use Prim.Native.Nat.{ℕ, zero, suc, ◌+◌, ◌≤◌, ◌<◌}
-use Rattle.std.specs.Prelude.{◌≡◌, refl, Result, Ok, Err, MatchResult}
+use Rattle.std.specs.Prelude.{◌≡◌, refl, Option, Result, Ok, Err, MatchResult}
 use Rattle.std.proofs.Math.Path.{sym, ap}
-use Rattle.std.proofs.Common.{subst, ◌∙◌, arith, lt-ltb, le-ltb, eq-eqb, ne_eqb}
+use Rattle.std.proofs.Common.{subst, ◌∙◌, arith, eq-eqb, ne_eqb}
 use mathlib.Core.List.{List, [], ◌∷◌}
 use Rattle.std.proofs.Math.Bool.{cond}
 use Rattle.std.proofs.Math.Numerals.{add-one}
 use Rattle.std.proofs.Math.ListN.{get_or, set, take}
-use Rattle.trees.specs.Lists.{Place, nowhere, range, zeros, first}
+use Rattle.trees.specs.Lists.{Place, nowhere, at, range, zeros, first}
 use Rattle.trees.proofs.ListLaws.{first_end, first_hit}
 use Rattle.trees.specs.Rows.{root_mark}
 use Rattle.trees.specs.Checks.{Verdict, accepted, Check, ◌⊳◌, asked, fewest_samples, most_samples, row_words, check1, check3}
@@ -26,13 +26,12 @@ use Rattle.newick.specs.Walk.Parse.{reads, stops}
 use Rattle.newick.specs.Tree.{Tree}
 use Rattle.newick.specs.Meaning.{samples}
 use Rattle.newick.specs.ReadCalls.{tree_in, check17, check18, text_checks, read_checks, reading, row_in}
-use Rattle.newick.specs.Grammar.{sample_bound}
 use Rattle.lay.specs.declared.keep.Kept.{Kept}
 use Rattle.lay.specs.declared.tables.Standing.{Standing}
 use Rattle.lay.specs.declared.tables.Standing.TheVariants.{Never, Once, Repeated}
 use Rattle.lay.specs.Laying.{Link, sets, grow, tally, least, laid_row}
 use Rattle.lay.proofs.LaidRow.{laid_valid}
-use Rattle.lay.specs.Faults.{or_at, below_place, due, told_by, bad_mark, mark_check}
+use Rattle.lay.specs.Faults.{or_at, place_of, due, told_by, bad_mark, mark_check}
 use Rattle.lay.proofs.FaultLaws.{place18, laid_row_in}
 use Rattle.newick.proofs.FaultLaws.{stands_exactly}
 use Rattle.reader.specs.Steps.{Told, Texts}
@@ -70,13 +69,13 @@ told_one Repeated Once e = absurd (omega (arith, e))
 told_one Repeated Repeated e = refl
 
 module _ (n : ℕ) (marks : List Standing) (b v : ℕ) (s : ScanLeft (bad_mark n marks) 0 b v) where
-  pub bad_end : b ≤ v → below_place b b ≡ first (bad_mark n marks) (range 0 b)
-  bad_end h = rw (le-ltb b b (omega arith)) (sym (s.decides ∙ first_end (bad_mark n marks) v b h))
+  pub bad_end : b ≤ v → nowhere ≡ first (bad_mark n marks) (range 0 b)
+  bad_end h = sym (s.decides ∙ first_end (bad_mark n marks) v b h)
 
   module _ (r : Standing) (e : told_by r ≡ due n v) (h : v < b) where
-    pub bad_hit : (get_or marks v Never ≡ r → ⊥) → below_place b v ≡ first (bad_mark n marks) (range 0 b)
-    bad_hit f = rw (lt-ltb v b h) (sym (s.decides ∙ first_hit (bad_mark n marks) v b h
-        (rw (ne_eqb (told_by (get_or marks v Never)) (due n v) (λ q. f (told_one (get_or marks v Never) r (q ∙ sym e)))) refl)))
+    pub bad_hit : (get_or marks v Never ≡ r → ⊥) → at v ≡ first (bad_mark n marks) (range 0 b)
+    bad_hit f = sym (s.decides ∙ first_hit (bad_mark n marks) v b h
+        (rw (ne_eqb (told_by (get_or marks v Never)) (due n v) (λ q. f (told_one (get_or marks v Never) r (q ∙ sym e)))) refl))
 
     pub bad_not : get_or marks v Never ≡ r → ScanLeft (bad_mark n marks) 0 b (v + 1)
     bad_not f = scan_pass s h (rw (eq-eqb (told_by (get_or marks v Never)) (due n v) (ap told_by f ∙ e)) refl)
@@ -106,9 +105,9 @@ module _ (l : List ℕ) (n : ℕ) (kept : Kept) (row : List ℕ) (marks : List S
 
   as18 : asked18 ≡ asked (check18 n t)
   as18 = ap (λ (p : Place). asked (record { number = 18; fault = p }))
-      (ap (λ (b : ℕ). or_at (first (bad_mark n marks₁) (range 0 most_samples)) (below_place sample_bound b))
+      (ap (λ (b : Option ℕ). or_at (first (bad_mark n marks₁) (range 0 most_samples)) (place_of b))
       (T.lays.large ∙ ap (λ (c : Kept). least most_samples (samples t) c.large) F.numbers)
-      ∙ sym (place18 n most t marks₁ (T.lays.stands ∙ ap (tally (samples t)) F.tallies) T.lays.below))
+      ∙ sym (place18 n most t marks₁ (T.lays.stands ∙ ap (tally (samples t)) F.tallies)))
 
   past17 : checks_of n l ⊳ accepted ≡ (check18 n t ∷ []) ⊳ accepted
   unfolding text_checks

@@ -1,5 +1,5 @@
 -- The checks of a text, the row that is laid for one that passes, and what is left in `out` (RULES 14).
-use Rattle.std.specs.Prelude.{ℕ, ◌≡◌, cond, List, take, replicate, Ok, Err}
+use Rattle.std.specs.Prelude.{ℕ, ◌≡◌, cond, List, take, replicate, None, Ok, Err}
 use Rattle.trees.specs.Lists.{zeros}
 use Rattle.trees.specs.Checks.{Check, accepted, ◌⊳◌, most_samples, row_words}
 use Rattle.trees.specs.Tables.{table_words}
@@ -8,7 +8,6 @@ use Rattle.judge.specs.Verdicts.{Answer, verdict}
 use Rattle.newick.specs.Tree.{Tree}
 use Rattle.newick.specs.Walk.{parsed}
 use Rattle.newick.specs.ReadCalls.{tree_in, text_checks, row_in}
-use Rattle.newick.specs.Grammar.{sample_bound}
 use Rattle.lay.specs.declared.keep.Kept.{Kept}
 use Rattle.lay.specs.declared.tables.Standing.{Standing}
 use Rattle.lay.specs.declared.tables.Standing.TheVariants.{Never}
@@ -16,7 +15,7 @@ use Rattle.lay.specs.Laying.{grow, laid_row}
 
 -- what a reading over n samples starts with: no node, no sample too large, no link, no mark
 pub record Unread (n : ℕ) (kept : Kept) (row : List ℕ) (marks : List Standing) : Type 0 where
-  pub numbers : kept ≡ record { root = 0; next = n; large = sample_bound }
+  pub numbers : kept ≡ record { root = 0; next = n; large = None }
   pub words : row ≡ zeros table_words
   pub tallies : marks ≡ replicate most_samples Never
 

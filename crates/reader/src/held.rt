@@ -54,7 +54,7 @@ impl<'a> Reader<'a> {
     }
 
     // The end of the text, which has to be here.
-    pub fn end(&self) -> Result<usize, Stop>
+    pub fn at_end(&self) -> Result<usize, Stop>
         ensures { result ≡ end_from self.now.text.now (Ok self.now.at) }
     {
         if self.at != self.text.len() {
@@ -73,5 +73,5 @@ pub fn whole(text: &[u8], kept: &mut Kept, row: &mut Row, marks: &mut Marks) -> 
     reader.subtree(kept, row, marks)?;
     reader.semicolon()?;
     reader.skip_blanks();
-    reader.end()
+    reader.at_end()
 }

@@ -13,7 +13,7 @@ ghost use Rattle.reader.specs.Results.{Unread, Lies, checks_of, left_in};
 use crate::checks::check_samples;
 use crate::held::whole;
 use judge::{ROOT_MARK, Reason, Refusal};
-use lay::{Kept, MARKS, Marks, NOTHING_LARGE, ROW, Row, Standing, link};
+use lay::{Kept, MARKS, Marks, ROW, Row, Standing, link};
 use row::renumber_valid;
 
 // The number of nodes, and the mark of the topmost one.
@@ -78,7 +78,7 @@ fn read_room(n: usize, text: &[u8], out: &mut [u16]) -> Result<(), Refusal>
     let mut kept = Kept {
         root: 0,
         next: n,
-        large: NOTHING_LARGE,
+        large: None,
     };
     let mut row: Row = [0; ROW];
     let mut marks: Marks = [Standing::Never; MARKS];

@@ -4,7 +4,6 @@ use mathlib.Core.Path.{◌≡◌, sym, ap, ◌∙◌}
 use mathlib.Core.List.{List, [], ◌∷◌}
 use lib.Dec.{eqb}
 use Rattle.trees.specs.Checks.{accepted, Check, line, ◌⊳◌, asked}
-use Rattle.trees.proofs.ChainLaws.{chain_stop, chain_go}
 use Rattle.trees.specs.RowCalls.{check3_both}
 use Rattle.trees.specs.Thresholds.{threshold}
 use Rattle.runs.specs.Words.{samples, in_force}
@@ -12,50 +11,45 @@ use Rattle.runs.specs.Formed.{Formed}
 use Rattle.runs.specs.Calls.{check2}
 use Rattle.runs.specs.Reports.{check14, check16, report_formed_checks, report_checks, reported}
 use Rattle.runs.proofs.ReportLaws.{reported_refused}
-use Rattle.judge.specs.declared.Answer.{Answer}
-use Rattle.judge.specs.declared.Answer.TheVariants.{Accepted, Refused}
-use Rattle.judge.specs.Verdicts.{verdict}
+use Rattle.std.specs.Prelude.{Err}
+use Rattle.std.specs.Result.{IsErrAnd}
+use Rattle.judge.specs.declared.Refusal.{Refusal}
+use Rattle.judge.specs.Verdicts.{Answer, verdict}
+use Rattle.judge.proofs.Laws.{handed_on, stopped, goes, last}
 use Rattle.report.specs.ReportedLaws.{report-formed}
 
-module _ (w : List ℕ) (p : ℕ) (a s : List ℕ) (r : Answer) where
-  -- ---- check 2
-
-  pub study_stops : verdict r ≡ asked (check2 w) → (i j : ℕ) → r ≡ Refused i j → verdict r ≡ (reported w p a s).verdict
-  unfolding reported report_checks
-  study_stops e i j q = ap verdict q ∙ sym (chain_stop (check2 w) (report_formed_checks w p a s) accepted i j (sym e ∙ ap verdict q))
-
+module _ (w : List ℕ) (p : ℕ) (a s : List ℕ) where
   -- ---- checks 3, 16 and 14, by the numbers that were read
 
-  module _ (f : Formed w) {n : ℕ} (x : n ≡ samples w) (e : verdict r ≡ asked (check3_both n a s)) where
+  module _ (f : Formed w) {n : ℕ} (x : n ≡ samples w) where
     abbrev rest : List Check
     rest = check16 (threshold p) ∷ check14 w ∷ []
 
-    says : verdict r ≡ asked (check3_both (samples w) a s)
-    says = e ∙ ap (λ (i : ℕ). asked (check3_both i a s)) x
-
-    pub words_stop : (i j : ℕ) → r ≡ Refused i j → verdict r ≡ (reported w p a s).verdict
+    chain : (check3_both n a s ∷ rest) ⊳ accepted ≡ (reported w p a s).verdict
     unfolding report_formed_checks
-    words_stop i j q = ap verdict q ∙ sym (report-formed w p a s f ∙ chain_stop (check3_both (samples w) a s) rest accepted i j (sym says ∙ ap verdict q))
+    chain = ap (λ (i : ℕ). (check3_both i a s ∷ rest) ⊳ accepted) x ∙ sym (report-formed w p a s f)
 
-    module _ (q : r ≡ Accepted) (o : Answer) {t : ℕ} (y : t ≡ threshold p) (g : verdict o ≡ asked (check16 t)) where
-      left : (reported w p a s).verdict ≡ rest ⊳ accepted
-      unfolding report_formed_checks
-      left = report-formed w p a s f ∙ chain_go (check3_both (samples w) a s) rest accepted (sym says ∙ ap verdict q)
+    pub words_stop : (r : Answer) (y : Refusal) → IsErrAnd r (λ z. z ≡ y) → verdict (Err y) ≡ asked (check3_both n a s) → verdict r ≡ (reported w p a s).verdict
+    words_stop r y h e = stopped (check3_both n a s) rest r y h e ∙ chain
 
-      says_2 : verdict o ≡ asked (check16 (threshold p))
-      says_2 = g ∙ ap (λ (i : ℕ). asked (check16 i)) y
+    module _ (e : accepted ≡ asked (check3_both n a s)) {t : ℕ} (z : t ≡ threshold p) where
+      left : (check16 t ∷ check14 w ∷ []) ⊳ accepted ≡ (reported w p a s).verdict
+      left = ap (λ (i : ℕ). (check16 i ∷ check14 w ∷ []) ⊳ accepted) z ∙ goes (check3_both n a s) rest e ∙ chain
 
-      pub threshold_stops : (i j : ℕ) → o ≡ Refused i j → verdict o ≡ (reported w p a s).verdict
-      threshold_stops i j u = ap verdict u ∙ sym (left ∙ chain_stop (check16 (threshold p)) (check14 w ∷ []) accepted i j (sym says_2 ∙ ap verdict u))
+      pub threshold_stops : (r : Answer) (y : Refusal) → IsErrAnd r (λ u. u ≡ y) → verdict (Err y) ≡ asked (check16 t) → verdict r ≡ (reported w p a s).verdict
+      threshold_stops r y h g = stopped (check16 t) (check14 w ∷ []) r y h g ∙ left
 
-      pub threshold_goes : o ≡ Accepted → (l : Answer) {k : ℕ} → k ≡ in_force w → verdict l ≡ asked (line 14 (eqb k 0)) → verdict l ≡ (reported w p a s).verdict
-      unfolding ◌⊳◌
-      threshold_goes u l z h = h ∙ ap (λ (i : ℕ). asked (line 14 (eqb i 0))) z
-          ∙ sym (left ∙ chain_go (check16 (threshold p)) (check14 w ∷ []) accepted (sym says_2 ∙ ap verdict u))
+      pub threshold_goes : accepted ≡ asked (check16 t) → {k : ℕ} → k ≡ in_force w → asked (line 14 (eqb k 0)) ≡ (reported w p a s).verdict
+      threshold_goes g u = ap (λ (i : ℕ). asked (line 14 (eqb i 0))) u ∙ last (check14 w) ∙ goes (check16 t) (check14 w ∷ []) g ∙ left
 
-  -- ---- all of them
+  -- ---- check 2, and all of them
 
-  -- a refusal is passed on, and both buffers are as they were
-  pub report_stops : verdict r ≡ (reported w p a s).verdict → (i j : ℕ) → r ≡ Refused i j
-      → (verdict r ≡ (reported w p a s).verdict) × ((a ≡ (reported w p a s).agreed_row) × (s ≡ (reported w p a s).support_row))
-  report_stops e i j q = let h = reported_refused w p a s i j (sym e ∙ ap verdict q) in (e, (sym h.0, sym h.1))
+  module _ (r : Answer) (y : Refusal) (h : IsErrAnd r (λ z. z ≡ y)) where
+    pub study_stops : verdict (Err y) ≡ asked (check2 w) → verdict r ≡ (reported w p a s).verdict
+    unfolding reported report_checks
+    study_stops e = stopped (check2 w) (report_formed_checks w p a s) r y h e
+
+    -- a refusal is passed on, and both buffers are as they were
+    pub report_stops : verdict (Err y) ≡ (reported w p a s).verdict
+        → (verdict r ≡ (reported w p a s).verdict) × ((a ≡ (reported w p a s).agreed_row) × (s ≡ (reported w p a s).support_row))
+    report_stops e = let o = reported_refused w p a s _ _ (sym e) in (handed_on r y h ∙ e, (sym o.0, sym o.1))

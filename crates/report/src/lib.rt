@@ -29,6 +29,7 @@ fn runs_given(k: usize) -> Result<(), Refusal>
 }
 
 // The checks of a report that are left where the study is known to be well formed (RULES 7.8).
+#[tactic(auto, using(runs::proofs::SlotLaws::formed_long))]
 fn formed_checks(words: &[u16], p: usize, agreed: &[u16], support: &[u16]) -> Result<(), Refusal>
     requires { Formed words.now }
     ensures { verdict result ≡ (reported words.now p agreed.now support.now).verdict }
@@ -41,7 +42,12 @@ fn formed_checks(words: &[u16], p: usize, agreed: &[u16], support: &[u16]) -> Re
 }
 
 // All checks of a report (RULES 7.8).
-pub fn report_checks(words: &[u16], p: usize, agreed: &[u16], support: &[u16]) -> Result<(), Refusal>
+pub fn report_checks(
+    words: &[u16],
+    p: usize,
+    agreed: &[u16],
+    support: &[u16],
+) -> Result<(), Refusal>
     ensures { verdict result ≡ (reported words.now p agreed.now support.now).verdict }
 {
     study_given(words)?;
@@ -84,7 +90,12 @@ fn both_rows(words: &[u16], p: usize, agreed: &mut [u16], support: &mut [u16])
 }
 
 // The report of a study that is known to be well formed.
-pub fn report_formed(words: &[u16], p: usize, agreed: &mut [u16], support: &mut [u16]) -> Result<(), Refusal>
+pub fn report_formed(
+    words: &[u16],
+    p: usize,
+    agreed: &mut [u16],
+    support: &mut [u16],
+) -> Result<(), Refusal>
     requires { Formed words.now }
     ensures answer { verdict result ≡ (reported words.now p agreed.old support.old).verdict }
     ensures agreed { agreed.new ≡ (reported words.now p agreed.old support.old).agreed_row }
@@ -96,7 +107,12 @@ pub fn report_formed(words: &[u16], p: usize, agreed: &mut [u16], support: &mut 
 }
 
 // The report at p: a refusal that leaves both buffers as they were, or the agreed row and the support row.
-pub fn report(words: &[u16], p: usize, agreed: &mut [u16], support: &mut [u16]) -> Result<(), Refusal>
+pub fn report(
+    words: &[u16],
+    p: usize,
+    agreed: &mut [u16],
+    support: &mut [u16],
+) -> Result<(), Refusal>
     ensures answer { verdict result ≡ (reported words.now p agreed.old support.old).verdict }
     ensures agreed { agreed.new ≡ (reported words.now p agreed.old support.old).agreed_row }
     ensures support { support.new ≡ (reported words.now p agreed.old support.old).support_row }

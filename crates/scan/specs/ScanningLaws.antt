@@ -70,15 +70,15 @@ module _ (l : List ℕ) (p x i left : ℕ) (s : Sampling l p x i left) where
   sampling_small = room_small left x s.small
 
   -- a digit more
-  pub sampling_on : (d c : ℕ) → left ≡ c + 1 → is_digit (get_or l i 0) ≡ true → d ≡ get_or l i 0 - nought_byte
-      → Sampling l p (x * 10 + d) (i + 1) c
-  sampling_on d c h e f = let w = passes_within is_digit l i refl e in let z : left ≡ suc c = omega arith in record {
+  pub sampling_on : (d c j : ℕ) → left ≡ c + 1 → j ≡ i + 1 → is_digit (get_or l i 0) ≡ true → d ≡ get_or l i 0 - nought_byte
+      → Sampling l p (x * 10 + d) j c
+  sampling_on d c j h q e f = let w = passes_within is_digit l i refl e in let z : left ≡ suc c = omega arith in rw q (record {
     later = omega (arith, s.later);
     within = omega (arith, w);
     few = omega (arith, s.few);
     small = room_falls c x d (omega (arith, s.few)) (rw z at s.small) (omega (arith, digit_range (get_or l i 0) e));
-    goes = λ k. s.goes k ∙ ap (λ (j : ℕ). from l i (sample k x j)) z ∙ sample_longer l i x c d k w e f;
-  }
+    goes = λ k. s.goes k ∙ ap (λ (m : ℕ). from l i (sample k x m)) z ∙ sample_longer l i x c d k w e f;
+  })
 
   -- no digit more
   pub sampling_ends : is_digit (get_or l i 0) ≡ false → Sampled l p (record { value = x; end = i })

@@ -35,7 +35,7 @@ fn skip_while<F: Fn(u8) -> bool>(s: &[u8], at: usize, test: F) -> usize
 pub fn skip_blanks(s: &[u8], at: usize) -> usize
     ensures { result ≡ past is_blank s.now at }
 {
-    skip_while(s, at, |b| matches!(b, b' ' | b'\t' | b'\r' | b'\n'))
+    skip_while(s, at, |b| (b == b' ') | (b == b'\t') | (b == b'\r') | (b == b'\n'))
 }
 
 // The place past the digits that stand at a place.

@@ -23,20 +23,19 @@ pub(crate) fn sample(s: &[u8], at: usize) -> Number
     requires { (at < length s.now) × (is_digit (get_or s.now at 0) ≡ true) }
     ensures { Sampled s.now at result }
 {
-    let first = at + 1;
     let mut value = digit(look(s, at));
     if value == 0 {
-        return Number { value, end: first };
+        return Number { value, end: at + 1 };
     }
-    for i in first..first + MORE_DIGITS {
-        let b = look(s, i);
+    for i in 1..=MORE_DIGITS {
+        let b = look(s, at + i);
         if !b.is_ascii_digit() {
-            return Number { value, end: i };
+            return Number { value, end: at + i };
         }
         value = value * TEN + digit(b);
     }
     Number {
         value,
-        end: first + MORE_DIGITS,
+        end: at + 1 + MORE_DIGITS,
     }
 }

@@ -1,7 +1,6 @@
 -- `candidates::take_in` is one round, after which the candidates come from the spare buffer. Assumes nothing.
 use Rattle.count.specs.StudyLaws.{held_study}
 use Rattle.candidates.specs.CandidateLaws.{take_ready, take_room, take_step}
-use native.Mathlib.Omega.{arith}
 use Rattle.candidates.proofs.take_in.Goals as goal
 
 pub round-requires : goal.round-requires
@@ -12,8 +11,6 @@ round-requires c =
       c.run_row.ensures.standard,
       take_ready s.words.now s.n s.k (held_study s) a.i c.requires.0 _ _ _ c.requires.1 is,
       take_room s.words.now s.n s.k (held_study s) a.i c.requires.0 _ _ _ c.requires.1 is,
-      omega arith,
-      omega arith,
       c.requires.3,
     )
 
@@ -22,4 +19,4 @@ returns c =
     let a = c.args in
     let s = a.study in
     rw c.copy_from_slice.ensures.after (take_step s.words.now s.n s.k (held_study s) a.i c.requires.0 _ _ _ c.requires.1
-    c.run_row.ensures.row _ _ c.round.ensures.0)
+    c.run_row.ensures.row _ _ c.round.ensures)

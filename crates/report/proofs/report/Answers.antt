@@ -1,19 +1,17 @@
 -- `report::report` refuses, or writes both rows. Assumes nothing.
-use mathlib.Core.Path.{sym, ap, ◌∙◌}
-use Rattle.judge.specs.Verdicts.{verdict}
+use mathlib.Core.Path.{sym}
 use Rattle.report.proofs.CallLaws.{report_stops}
 use Rattle.report.proofs.report.Goals as goal
 
-pub returns-in_default : goal.returns-in_default
-returns-in_default c =
+pub returns-in_err-report_checks : goal.returns-in_err-report_checks
+returns-in_err-report_checks c =
     let a = c.args in
-    let stops = report_stops a.words.now a.p a.agreed.now a.support.now c.report_checks-a.result c.report_checks-a.ensures _ _ c.in_default.is in
+    let stops = report_stops a.words.now a.p a.agreed.now a.support.now _ c.in_err-report_checks.field-0.0 c.from_residual.ensures.1 c.in_err-report_checks.ensures in
     record { answer = stops.0; agreed = stops.1.0; support = stops.1.1 }
 
 pub both_rows-requires : goal.both_rows-requires
-both_rows-requires c =
-    sym c.report_checks-a.ensures ∙ ap verdict c.in-Accepted.is
+both_rows-requires c = sym c.in_ok-report_checks.ensures
 
 pub returns : goal.returns
 returns c =
-    record { answer = sym (ap verdict c.in-Accepted.is) ∙ c.report_checks-a.ensures; agreed = c.both_rows.ensures.agreed; support = c.both_rows.ensures.support }
+    record { answer = c.in_ok-report_checks.ensures; agreed = c.both_rows.ensures.agreed; support = c.both_rows.ensures.support }

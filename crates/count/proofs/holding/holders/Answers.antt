@@ -18,7 +18,7 @@ count_run-requires c =
     let a = c.args in
     let s = a.study in (
       c.requires,
-      c.tables.ensures,
+      c.of-chart.ensures,
       c.run_row.ensures.standard,
       counting_under (holds s.n) s.n (runs s.words.now) a.reference.now most_runs c.loop-j.j c.loop-j.holders
           (omega (arith, study_few _ _ _ (held_study s))) c.loop-j.invariant,

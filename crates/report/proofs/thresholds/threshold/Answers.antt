@@ -7,6 +7,6 @@ pub returns-then-p-eq0 : goal.returns-then-p-eq0
 unfolding threshold
 returns-then-p-eq0 c = rw (eq-eqb c.args.p 0 c.if-p-eq0.true)
 
-pub returns : goal.returns
+pub returns-else-p-eq0 : goal.returns-else-p-eq0
 unfolding threshold
-returns c = rw (ne_eqb c.args.p 0 c.if-p-eq0.false)
+returns-else-p-eq0 c = rw (ne_eqb c.args.p 0 c.if-p-eq0.false)

@@ -37,7 +37,7 @@ overflow_add-value c =
 
 pub loop-i-preserved : goal.loop-i-preserved
 loop-i-preserved c =
-    sampling_on _ _ _ _ _ c.loop-i.invariant _ _ (omega arith)
+    sampling_on _ _ _ _ _ c.loop-i.invariant _ _ _ (omega arith) (omega arith)
     (ap is_digit (sym c.look-b.ensures) ∙ is_one (goal.at.loop-i-preserved c).Else-not-is_ascii_digit)
     (c.digit.ensures ∙ ap (λ (b : ℕ). b - nought_byte) c.look-b.ensures)
 

@@ -1,18 +1,18 @@
--- `count::holding::run_row` is the row of slot j, and standard. Assumes nothing.
+-- `count::Held::run_row` is the row of slot j, and standard. Assumes nothing.
 use native.Mathlib.Omega.{arith}
 use Rattle.count.specs.StudyLaws.{held_study, study_most, study_few, study_room, study_standard}
-use Rattle.count.proofs.holding.run_row.Goals as goal
+use Rattle.count.proofs.held.Held.run_row.Goals as goal
 
 pub slot_start-requires : goal.slot_start-requires
 slot_start-requires c =
-    let s = held_study c.args.study in
+    let s = held_study c.args.self in
     (study_most _ _ _ s, omega (arith, study_few _ _ _ s))
 
 pub slot_row-requires : goal.slot_row-requires
 slot_row-requires c =
-    let s = held_study c.args.study in
+    let s = held_study c.args.self in
     (study_most _ _ _ s, rw c.slot_start.ensures (study_room _ _ _ s c.args.j c.requires))
 
 pub returns-clause-standard : goal.returns-clause-standard
 returns-clause-standard c =
-    rw (c.slot_row.ensures, c.slot_start.ensures) (study_standard _ _ _ (held_study c.args.study) c.args.j c.requires)
+    rw (c.slot_row.ensures, c.slot_start.ensures) (study_standard _ _ _ (held_study c.args.self) c.args.j c.requires)
