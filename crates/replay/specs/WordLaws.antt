@@ -1,6 +1,6 @@
 -- How words and bytes go over into each other, a word at a time. Assumes nothing.
 use Rattle.std.specs.Prelude.{ℕ, suc, ◌+◌, ◌-◌, ◌*◌, ◌/◌, ◌%◌, ◌<◌, ◌≡◌, refl, List, [], ◌∷◌, ◌++◌, length, get_or, take, drop, set}
-use Rattle.std.proofs.Common.{sym, ◌∙◌, append_assoc, append-nil, add-one, arith, length-set, drop-cons, take-suc-set}
+use Rattle.std.proofs.Common.{sym, ◌∙◌, append_assoc, append-nil, add-one, arith, drop-cons, take-suc-set}
 use Rattle.std.proofs.Math.Seq.{append_snoc, drop-length, take-length}
 use Rattle.std.specs.Int.{to_le_bytes}
 use Rattle.std.proofs.lemmas.Slice.{take-put_mid}

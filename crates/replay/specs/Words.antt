@@ -1,5 +1,5 @@
 -- Words of 16 bits as bytes, low byte first. Assumes nothing.
-use Rattle.std.specs.Prelude.{ℕ, ◌+◌, ◌*◌, ◌/◌, ◌%◌, ◌≤◌, List, [], ◌∷◌, length, get_or, set}
+use Rattle.std.specs.Prelude.{ℕ, ◌+◌, ◌*◌, ◌/◌, ◌%◌, ◌≤◌, List, [], ◌∷◌, length, get_or}
 
 -- how many words a buffer has at most, and that a list has no more
 abbrev pub most_words : ℕ

@@ -12,46 +12,61 @@ use judge::{ROOT_MARK, ValidRow, nodes, parent};
 use passes::TABLE;
 use put::{put_byte, put_number};
 
-// What stands behind child c: behind an inner node's closing bracket its word, if words are wanted.
-fn put_mark(n: usize, words: &[u16], c: usize, out: &mut [u8], at: usize) -> usize
-    requires { HasWord words.now c
-        × (at + length (behind n (wanted_by words.now) c) ≤ length out.old) }
-    ensures { Put (behind n (wanted_by words.now) c) out.old at out.new result }
-{
-    if (c < n) | (words.len() == 0) {
-        return at;
-    }
-    put_number(usize::from(words[c + 1]), out, at)
+// What a text is put from: a row, its nodes' children, and its supports' words, if they are wanted.
+#[derive(Clone, Copy)]
+struct Pen<'a> {
+    tree: ValidRow<'a>,
+    chains: &'a Chains,
+    words: &'a [u16],
 }
 
-// The text of node v but for what stands behind it: below v at most `left` brackets stand in one another.
-fn put_text(
-    n: usize,
-    chains: &Chains,
-    words: &[u16],
-    v: usize,
-    left: usize,
-    out: &mut [u8],
-    at: usize,
-) -> usize
-    requires { Charted n chains.now.head chains.now.next v × Supports n words.now
-        × (at + length (table_text chains.now.head chains.now.next left n words.now v) ≤ length out.old) }
-    ensures { Put (table_text chains.now.head chains.now.next left n words.now v)
-        out.old at out.new result }
-{
-    if (left == 0) | (v < n) {
-        return put_number(v, out, at);
-    }
-    let mut e = put_byte(b'(', out, at);
-    let mut c = usize::from(chains.head[v]);
-    loop {
-        e = put_text(n, chains, words, c, left - 1, out, e);
-        e = put_mark(n, words, c, out, e);
-        c = usize::from(chains.next[c]);
-        if c == 0 {
-            return put_byte(b')', out, e);
+impl Pen<'_> {
+    // What stands behind child c: behind an inner node's closing bracket its word, if words are wanted.
+    fn put_mark(&self, c: usize, out: &mut [u8], at: usize) -> usize
+        requires { HasWord self.now.words.now c
+            × (at + length (behind self.now.tree.n (wanted_by self.now.words.now) c) ≤ length out.old) }
+        ensures { Put (behind self.now.tree.n (wanted_by self.now.words.now) c) out.old at out.new result }
+    {
+        if (c < self.tree.n) | (self.words.len() == 0) {
+            return at;
         }
-        e = put_byte(b',', out, e);
+        put_number(usize::from(self.words[c + 1]), out, at)
+    }
+
+    // The text of node v but for what stands behind it: below v at most `left` brackets stand in one another.
+    fn put_text(&self, v: usize, left: usize, out: &mut [u8], at: usize) -> usize
+        requires { Charted self.now.tree.n self.now.chains.now.head self.now.chains.now.next v × Supports self.now.tree.n self.now.words.now
+            × (at + length (table_text self.now.chains.now.head self.now.chains.now.next left self.now.tree.n self.now.words.now v)
+            ≤ length out.old) }
+        ensures { Put (table_text self.now.chains.now.head self.now.chains.now.next left self.now.tree.n self.now.words.now v)
+            out.old at out.new result }
+    {
+        if (left == 0) | (v < self.tree.n) {
+            return put_number(v, out, at);
+        }
+        let mut e = put_byte(b'(', out, at);
+        let mut c = usize::from(self.chains.head[v]);
+        loop {
+            e = self.put_text(c, left - 1, out, e);
+            e = self.put_mark(c, out, e);
+            c = usize::from(self.chains.next[c]);
+            if c == 0 {
+                return put_byte(b')', out, e);
+            }
+            e = put_byte(b',', out, e);
+        }
+    }
+
+    // The text of the row.
+    #[tactic(auto, using(row::proofs::ValidRows::valid_long))]
+    fn put_whole(&self, out: &mut [u8]) -> usize
+        requires { Kids self.now.tree.n self.now.tree.row.now self.now.chains.now.head self.now.chains.now.next
+            × Supports self.now.tree.n self.now.words.now
+            × (length (text_of self.now.tree.n self.now.tree.row.now self.now.words.now) ≤ length out.old) }
+        ensures { Put (text_of self.now.tree.n self.now.tree.row.now self.now.words.now) out.old 0 out.new result }
+    {
+        let end = self.put_text(root(self.tree), nodes(self.tree.row), out, 0);
+        put_byte(b';', out, end)
     }
 }
 
@@ -68,17 +83,6 @@ fn root(tree: ValidRow) -> usize
     unreachable!()
 }
 
-// The text of a valid row whose children stand in the tables.
-#[tactic(auto, using(row::proofs::ValidRows::valid_long))]
-fn put_whole(tree: ValidRow, chains: &Chains, words: &[u16], out: &mut [u8]) -> usize
-    requires { Kids tree.n tree.row.now chains.now.head chains.now.next × Supports tree.n words.now
-        × (length (text_of tree.n tree.row.now words.now) ≤ length out.old) }
-    ensures { Put (text_of tree.entry.n tree.entry.row.now words.now) out.old 0 out.new result }
-{
-    let end = put_text(tree.n, chains, words, root(tree), nodes(tree.row), out, 0);
-    put_byte(b';', out, end)
-}
-
 // The text of a valid row, put at the front.
 pub fn put_row(tree: ValidRow, words: &[u16], out: &mut [u8]) -> usize
     requires { Supports tree.n words.now
@@ -90,5 +94,10 @@ pub fn put_row(tree: ValidRow, words: &[u16], out: &mut [u8]) -> usize
         next: [0; TABLE],
     };
     chains.fill(tree);
-    put_whole(tree, &chains, words, out)
+    let pen = Pen {
+        tree,
+        chains: &chains,
+        words,
+    };
+    pen.put_whole(out)
 }
