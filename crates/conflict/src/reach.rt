@@ -2,7 +2,6 @@
 // those of its children which the group touches. Each node hands its parent what it has got, in one pass.
 ghost use Rattle.std.specs.Prelude.{◌≡◌, ◌+◌, ◌<◌, ◌≤◌, length};
 ghost use Rattle.trees.specs.Rows.{nodes};
-ghost use Rattle.trees.specs.Checks.{most_samples};
 ghost use Rattle.trees.specs.Tables.{table_words, entry};
 ghost use Rattle.conflict.specs.Spans.{up_from, lesser_of};
 ghost use Rattle.conflict.specs.Gathering.{NodeOrNone, Joins, Levelled, Ends};
@@ -48,7 +47,7 @@ impl Ways<'_> {
     // The parent of node x, of which whatever x contains touches x alone.
     #[tactic(auto, using(passes::proofs::StandardRows::standard_nodes))]
     fn up(&self, x: usize) -> Reach
-        requires { x < nodes self.now.row.row.now }
+        requires { x + 1 < length self.now.row.row.now }
         ensures { result ≡ up_from self.now.row.row.now (first_of self.now) (last_of self.now) x }
     {
         Reach {
@@ -68,8 +67,7 @@ impl Ways<'_> {
 
     // What y reaches, brought up to node x where it is below it on one path.
     fn level(&self, x: u16, y: Reach) -> Reach
-        requires { (x < nodes self.now.row.row.now)
-            × (x < y.node → Below self.now x y.node) }
+        requires { (x < nodes self.now.row.row.now) × (x < y.node → Below self.now x y.node) }
         ensures { Levelled self.now.row.n self.now.row.row.now (first_of self.now) (last_of self.now) x y result }
     {
         if x < y.node {
@@ -92,6 +90,7 @@ impl Ways<'_> {
 
     // Up from two nodes to the first that is above both: as long as they are on two paths, the one whose path begins at
     // the greater number goes past its beginning.
+    #[tactic(auto, using(passes::proofs::StandardRows::standard_rows))]
     fn meet(&self, a: Reach, b: Reach) -> Reach
         requires { (self.now.row.n ≤ a.node) × (a.node < nodes self.now.row.row.now)
             × (self.now.row.n ≤ b.node) × (b.node < nodes self.now.row.row.now) }

@@ -5,7 +5,7 @@ mod carrying;
 
 ghost use Rattle.std.specs.Prelude.{◌≡◌, true, cond, eqb, ◌<◌, ◌≤◌, max, length};
 ghost use Rattle.trees.specs.Rows.{nodes, parent};
-ghost use Rattle.trees.specs.Checks.{most_samples, row_words};
+ghost use Rattle.trees.specs.Checks.{row_words};
 ghost use Rattle.trees.specs.Numbering.{row_of};
 ghost use Rattle.trees.specs.Tables.{Tabled, table_words, entry};
 ghost use Rattle.trees.specs.Passes.{Ranked};

@@ -36,8 +36,12 @@ module _ (n : ℕ) (r : List ℕ) (s : standard n r ≡ true) where
   pub standard_words : nodes r < length r
   standard_words = let ok = (standard_to n r s).valid in omega (arith, ok.words, ok.high)
 
+  -- it has no more words than a table
+  pub standard_room : length r ≤ table_words
+  standard_room = let ok = (standard_to n r s).valid in omega (arith, ok.words, ok.most)
+
 -- the same for a function that reads the words of its nodes
-pub ruleset standard_nodes = (standard_rows, standard_inner, standard_words)
+pub ruleset standard_nodes = (standard_rows, standard_inner, standard_words, standard_room)
 
 -- a row that is standard over its own samples, which are n
 pub standard_over : {n k : ℕ} {r : List ℕ} → standard k r ≡ true → k ≡ n → Standard n r

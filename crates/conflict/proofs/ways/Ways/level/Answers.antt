@@ -1,6 +1,7 @@
 -- `conflict::ways::Ways::level` goes on along the path, where there is a way to go. Assumes nothing.
 use Rattle.std.proofs.Common.{◌≡◌, ◌∙◌, ap, arith}
 use Rattle.trees.specs.Tables.{entry}
+use Rattle.passes.proofs.StandardRows.{standard_words}
 use Rattle.trees.proofs.StandardLaws.{standard_to}
 use Rattle.conflict.specs.Routes.{Below}
 use Rattle.conflict.specs.GatherLaws.{levelled_stay, levelled_up}
@@ -17,7 +18,8 @@ goes c =
     c.from-then-x-y.ensures ∙ ap (entry c.args.self.now.trails.now.next) c.from.ensures
 
 pub up-requires : goal.up-requires
-up-requires c = omega (arith, (onward (goal.at.up-requires c).Then-x-y).high, goes c)
+up-requires c =
+    omega (arith, (onward (goal.at.up-requires c).Then-x-y).high, goes c, standard_words _ _ c.args.self.now.row.standard)
 
 pub returns-then-x-y : goal.returns-then-x-y
 returns-then-x-y c =

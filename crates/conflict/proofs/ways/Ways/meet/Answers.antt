@@ -4,7 +4,8 @@ use mathlib.Core.Path.{◌≡◌, sym, ap}
 use native.Mathlib.Omega.{arith}
 use Rattle.trees.specs.Rows.{nodes, parent}
 use Rattle.trees.specs.Tables.{entry}
-use Rattle.trees.proofs.FallsLaws.{standard_falls, few}
+use Rattle.trees.proofs.FallsLaws.{standard_falls}
+use Rattle.passes.proofs.StandardRows.{standard_few, standard_words}
 use Rattle.trees.proofs.StandardLaws.{standard_to}
 use Rattle.conflict.specs.declared.reach.Reach.{Reach}
 use Rattle.conflict.specs.PathLaws.{same_path}
@@ -14,14 +15,6 @@ use borrow.Author.Rules.{rules}
 use Rattle.conflict.specs.Routes.{first_of, last_of}
 use Rattle.conflict.proofs.ways.Ways.meet.Goals.{After-up-x, After-up-y, After-from, After-from-else-h-k}
 use Rattle.conflict.proofs.ways.Ways.meet.Goals as goal
-
-pub begin-h-requires : goal.begin-h-requires
-begin-h-requires c =
-    omega (arith, c.requires.1, few _ _ (standard_falls _ _ (standard_to _ _ c.args.self.now.row.standard)))
-
-pub begin-k-requires : goal.begin-k-requires
-begin-k-requires c =
-    omega (arith, c.requires.3, few _ _ (standard_falls _ _ (standard_to _ _ c.args.self.now.row.standard)))
 
 pub loop-h-init : goal.loop-h-init
 loop-h-init c =
@@ -36,7 +29,7 @@ low-right w =
     (omega (arith, w.loop-h.invariant.0, w.loop-h.invariant.1, e)) (omega (arith, w.loop-h.invariant.0, w.loop-h.invariant.1, e))
 
 pub up-y-requires : goal.up-y-requires
-up-y-requires c = (low-right (search rules)).0
+up-y-requires c = omega (arith, (low-right (search rules)).0, standard_words _ _ c.args.self.now.row.standard)
 
 -- the walk after a step on the right
 went-right : (u : After-up-y) → let a = u.args in
@@ -48,7 +41,7 @@ went-right u =
 
 pub begin-k-requires-then-h-k : goal.begin-k-requires-then-h-k
 begin-k-requires-then-h-k c =
-    omega (arith, (went-right (search rules)).right.high, few _ _ (standard_falls _ _ (standard_to _ _ c.args.self.now.row.standard)))
+    omega (arith, (went-right (search rules)).right.high, standard_few _ _ c.args.self.now.row.standard)
 
 pub loop-h-smaller-then-h-k : goal.loop-h-smaller-then-h-k
 loop-h-smaller-then-h-k c =
@@ -67,7 +60,7 @@ low-left w =
     (omega (arith, w.loop-h.invariant.0, w.loop-h.invariant.1, e)) (omega (arith, w.loop-h.invariant.0, w.loop-h.invariant.1, e))
 
 pub up-x-requires : goal.up-x-requires
-up-x-requires c = (low-left (search rules)).0
+up-x-requires c = omega (arith, (low-left (search rules)).0, standard_words _ _ c.args.self.now.row.standard)
 
 -- the walk after a step on the left
 went-left : (u : After-up-x) → let a = u.args in
@@ -79,7 +72,7 @@ went-left u =
 
 pub begin-h-requires-else-h-k : goal.begin-h-requires-else-h-k
 begin-h-requires-else-h-k c =
-    omega (arith, (went-left (search rules)).left.high, few _ _ (standard_falls _ _ (standard_to _ _ c.args.self.now.row.standard)))
+    omega (arith, (went-left (search rules)).left.high, standard_few _ _ c.args.self.now.row.standard)
 
 pub loop-h-smaller : goal.loop-h-smaller
 loop-h-smaller c =
