@@ -73,13 +73,6 @@ pub const ROOT_MARK: usize = 65535;
 // The children that an inner node has at least (check 10, RULES 7.5).
 pub const FEWEST_CHILDREN: usize = 1;
 
-// A word as a count or an index.
-pub fn wide(x: u16) -> usize
-    ensures { (result ≡ x) × (result < 65536) }
-{
-    x as usize
-}
-
 // The number of nodes (RULES 2.1).
 pub fn nodes(row: &[u16]) -> usize
     requires { 0 < length row.now }
@@ -258,7 +251,7 @@ pub fn check_words(n: usize, row: &[u16]) -> Result<(), Refusal>
 }
 
 // Checks 5 to 10, of a row of the right length for n: the first that applies is the answer (RULES 7.2).
-// For judging, which keeps no table. The other calls use the form of `quick`.
+// For judging, which keeps no table. The other calls use the form of `quick`; the two checks as parameters would be longer than these three lines.
 fn check_row(n: usize, row: &[u16]) -> Result<(), Refusal>
     requires { (fewest_samples ≤ n) × (n ≤ most_samples) × (length row.now ≡ row_words n) }
     ensures { verdict result ≡ row_checks n row.now ⊳ accepted }

@@ -1,4 +1,5 @@
 // Rows of which it is known what they are, each with its number of samples. Whoever makes one shows that it is so.
+// One generic type for the three was tried: antt finds no proof that a fact which a type parameter brings is a proposition, as a ghost field has to be.
 ghost use Rattle.std.specs.Prelude.{◌≡◌, true};
 ghost use Rattle.trees.specs.Checks.{judged};
 ghost use Rattle.trees.specs.Valid.{is_accepted, standard};

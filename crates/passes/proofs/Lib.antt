@@ -1,4 +1,3 @@
-pub mod Filling
 pub mod Loops
 pub mod Scans
 pub mod StandardRows
