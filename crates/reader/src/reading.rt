@@ -47,7 +47,13 @@ fn renumber_front(n: usize, row: &[u16], out: &mut [u16])
     requires { Valid n (take (row_words n) row.now) × (length out.old ≡ row_words n) }
     ensures { out.new ≡ renumbered n (take (row_words n) row.now) }
 {
-    renumber_valid(ValidRow { n, row: &row[..2 * n] }, out);
+    renumber_valid(
+        ValidRow {
+            n,
+            row: &row[..2 * n],
+        },
+        out,
+    );
 }
 
 // Reading into `out`, with room for the row and the marks.
