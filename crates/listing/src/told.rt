@@ -40,7 +40,13 @@ fn told_of(answer: Result<(), Refusal>, slot: usize, sizes: Sizes) -> Result<Siz
 }
 
 // Adds slot j, whose row passes through `row`.
-fn add_row(bytes: &[u8], n: usize, j: usize, words: &mut [u16], row: &mut [u16]) -> Result<(), Refusal>
+fn add_row(
+    bytes: &[u8],
+    n: usize,
+    j: usize,
+    words: &mut [u16],
+    row: &mut [u16],
+) -> Result<(), Refusal>
     requires { Kept study_words n words.old × (file_bytes n (j + 1) ≤ length bytes.now) × (length row.old ≡ row_words n) }
     ensures answer { verdict result ≡ (called words.old (slot_call bytes.now n j)).verdict }
     ensures words { words.new ≡ (called words.old (slot_call bytes.now n j)).words }
@@ -102,7 +108,11 @@ fn report_ready(
     ensures support_after { shows result agreed.new support.new ≡ reports sizes.samples sizes.runs words.now }
     ensures printable { Printable result agreed.new support.new }
 {
-    told_of(report_formed(words, NO_THRESHOLD, agreed, support), 0, sizes)
+    told_of(
+        report_formed(words, NO_THRESHOLD, agreed, support),
+        0,
+        sizes,
+    )
 }
 
 // What a file comes to, with the agreed row and the support row at the front of their buffers.

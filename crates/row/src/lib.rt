@@ -6,6 +6,6 @@ mod numbers;
 mod renumbering;
 mod standard;
 
-pub use measured::Measured;
+pub use measured::{Measured, measure};
 pub use renumbering::{check_first, renumber};
 pub use standard::renumber_valid;

@@ -5,15 +5,15 @@ ghost use Rattle.trees.specs.Tables.{table_words};
 ghost use Rattle.trees.specs.Measuring.{TablesFrom};
 
 use judge::{ROOT_MARK, ValidRow, parent};
-use passes::{TABLE, Table};
+use passes::Table;
 
 // A valid row, and for each node the number of samples at or below it and the smallest of them.
-#[derive(Drop)]
+#[derive(Clone, Copy)]
 pub struct Measured<'a> {
     pub tree: ValidRow<'a>,
-    pub sizes: Table,
-    pub lows: Table,
-    ghost tables: { TablesFrom tree.n tree.row.now 0 sizes lows },
+    pub sizes: &'a Table,
+    pub lows: &'a Table,
+    ghost tables: { TablesFrom tree.n tree.row.now 0 sizes.now lows.now },
 }
 
 // Node v has one sample more, which is its smallest.
@@ -41,17 +41,12 @@ fn climb(tree: ValidRow, s: usize, sizes: &mut Table, lows: &mut Table)
     }
 }
 
-impl<'a> Measured<'a> {
-    // A valid row, measured: its samples are taken in from the last to the first.
-    #[tactic(auto, using(crate::proofs::ValidRows::valid_most))]
-    pub fn of(tree: ValidRow<'a>) -> Measured<'a>
-        ensures { result.tree ≡ tree.entry }
-    {
-        let mut sizes: Table = [0; TABLE];
-        let mut lows: Table = [tree.n as u16; TABLE];
-        for s in (0..tree.n).rev() {
-            climb(tree, s, &mut sizes, &mut lows);
-        }
-        Measured { tree, sizes, lows }
+// For each node the number of samples at or below it, and the smallest of them: the samples are taken in from the last to the first.
+pub fn measure(tree: ValidRow, sizes: &mut Table, lows: &mut Table)
+    requires { TablesFrom tree.n tree.row.now tree.n sizes.old lows.old }
+    ensures { TablesFrom tree.entry.n tree.entry.row.now 0 sizes.new lows.new }
+{
+    for s in (0..tree.n).rev() {
+        climb(tree, s, sizes, lows);
     }
 }

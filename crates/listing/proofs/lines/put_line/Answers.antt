@@ -5,7 +5,6 @@ use lib.ListN.{length, length-take}
 use Rattle.trees.specs.Checks.{most_samples, row_words}
 use Rattle.trees.proofs.StandardLaws.{standard_from}
 use Rattle.listing.specs.ListingLaws.{refused_line, ready_lines, ready_standard, ready_fits}
-use borrow.Author.Rules.{rules}
 use Rattle.listing.proofs.lines.put_line.Goals.{In-Ok}
 use Rattle.listing.proofs.lines.put_line.Goals as goal
 
@@ -16,14 +15,8 @@ few c =
     let a = c.args in
     ready_fits a.agreed.now a.support.now c.in-Ok.is c.requires.0
 
-pub overflow_mul-w : goal.overflow_mul-w
-overflow_mul-w c = omega (arith, few (goal.at.overflow_mul-w c).In-Ok)
-
 pub slice_bounds-tree_line-end : goal.slice_bounds-tree_line-end
 slice_bounds-tree_line-end c = simp length-take (omega (arith, few (goal.at.slice_bounds-tree_line-end c).In-Ok))
-
-pub slice_bounds-tree_line-end-in-Ok : goal.slice_bounds-tree_line-end-in-Ok
-slice_bounds-tree_line-end-in-Ok c = simp length-take (omega (arith, few (goal.at.slice_bounds-tree_line-end-in-Ok c).In-Ok))
 
 pub invariant_of-tree : goal.invariant_of-tree
 invariant_of-tree c =

@@ -21,8 +21,8 @@ returns-then-i-eq0 c =
     let a = c.args in
     rw (c.if-i-eq0.true, tree_first a.tree.n a.k a.tree.row.now a.support.now) c.put_head.ensures
 
-pub overflow_add-n : goal.overflow_add-n
-overflow_add-n c = omega (arith, some (search rules))
+pub overflow_add-tree : goal.overflow_add-tree
+overflow_add-tree c = omega (arith, some (search rules))
 
 pub put_node-requires : goal.put_node-requires
 put_node-requires c = (c.requires.support_words, omega (arith, some (goal.at.put_node-requires c).Start), omega (arith, some (goal.at.put_node-requires c).Start), c.requires.i_in_bounds.1)
