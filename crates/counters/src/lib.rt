@@ -7,10 +7,9 @@ ghost use Rattle.trees.specs.Rows.{nodes};
 ghost use Rattle.trees.specs.Checks.{row_words};
 ghost use Rattle.trees.specs.Valid.{Standard};
 ghost use Rattle.trees.specs.Tables.{Tabled, table_words, size_at};
-ghost use Rattle.trees.specs.Passes.{Ranked};
 ghost use Rattle.trees.specs.Mates.{Tables};
-ghost use Rattle.trees.specs.Merging.{Mergeable};
 ghost use Rattle.merge.specs.Carrying.{CarriedOver};
+ghost use Rattle.merge.specs.Siding.{Sided};
 ghost use Rattle.counters.specs.Rounds.{turned, turned_in, turned_by, Turned, weight, weights, Room, Ready, Rounded};
 
 use conflict::{agreements, sides};
@@ -89,9 +88,7 @@ fn renew(
     fresh: &mut Table,
     out: &mut [u16],
 )
-    requires { Mergeable n candidates.now.row.now candidates.now.keep.now run.now.row.now run.now.keep.now
-        × Ranked n candidates.now.row.now candidates.now.ranks.now.size candidates.now.ranks.now.low
-        × Ranked n run.now.row.now run.now.ranks.now.size run.now.ranks.now.low × (length out.old ≡ row_words n) }
+    requires { Sided n candidates.now run.now × (length out.old ≡ row_words n) }
     ensures { CarriedOver n candidates.now.row.now candidates.now.keep.now run.now.row.now run.now.keep.now
         counter.now weights fresh.new out.new }
 {

@@ -9,12 +9,12 @@ ghost use Rattle.trees.specs.Checks.{most_samples, row_words};
 ghost use Rattle.trees.specs.Valid.{Standard};
 ghost use Rattle.trees.specs.Numbering.{row_of};
 ghost use Rattle.trees.specs.Tables.{Tabled, table_words, entry};
-ghost use Rattle.trees.specs.Passes.{Ranked};
 ghost use Rattle.trees.specs.Merging.{merged, Mergeable};
 ghost use Rattle.trees.specs.Lockstep.{Next, blank, rank_or_end, Chosen, Given, Numbered};
 ghost use Rattle.trees.specs.Climbing.{Raised, climbed, Lifted, Climbable, parent_of, word_of};
 ghost use Rattle.merge.specs.Settling.{Settled};
 ghost use Rattle.merge.specs.Carrying.{CarriedOver};
+ghost use Rattle.merge.specs.Siding.{Sided};
 
 use carrying::carry;
 use judge::{MOST_SAMPLES, ROOT_MARK, nodes, parent};
@@ -114,9 +114,7 @@ fn lockstep(
     num_b: &mut Table,
     mins: &mut Table,
 ) -> usize
-    requires { Mergeable n a.now.row.now a.now.keep.now b.now.row.now b.now.keep.now
-        × Ranked n a.now.row.now a.now.ranks.now.size a.now.ranks.now.low
-        × Ranked n b.now.row.now b.now.ranks.now.size b.now.ranks.now.low
+    requires { Sided n a.now b.now
         × (num_a.old ≡ blank) × (num_b.old ≡ blank) }
     ensures { Numbered n a.now.row.now a.now.keep.now b.now.row.now b.now.keep.now
         num_a.new num_b.new mins.new result }
@@ -248,9 +246,7 @@ fn write_row(n: usize, a: &Ladder, b: &Ladder, parents: &Table, c: usize, out: &
 // Writes the row of the groups that are kept of two standard rows, where these agree and the whole is among them.
 // It tells at which node each kept group of the first row has come.
 fn merge_ranked(n: usize, a: &Side, b: &Side, num: &mut Table, out: &mut [u16])
-    requires { Mergeable n a.now.row.now a.now.keep.now b.now.row.now b.now.keep.now
-        × Ranked n a.now.row.now a.now.ranks.now.size a.now.ranks.now.low
-        × Ranked n b.now.row.now b.now.ranks.now.size b.now.ranks.now.low × (length out.old ≡ row_words n) }
+    requires { Sided n a.now b.now × (length out.old ≡ row_words n) }
     ensures { (out.new ≡ row_of n (merged n a.now.row.now a.now.keep.now b.now.row.now b.now.keep.now))
         × Settled n a.now.row.now a.now.keep.now num.new out.new }
 {
@@ -274,9 +270,7 @@ fn merge_ranked(n: usize, a: &Side, b: &Side, num: &mut Table, out: &mut [u16])
 
 // The same row, and what the kept nodes of the first row have in a table is carried over to where they have come.
 pub fn merge_carried(n: usize, a: &Side, b: &Side, from: &Table, to: &mut Table, out: &mut [u16])
-    requires { Mergeable n a.now.row.now a.now.keep.now b.now.row.now b.now.keep.now
-        × Ranked n a.now.row.now a.now.ranks.now.size a.now.ranks.now.low
-        × Ranked n b.now.row.now b.now.ranks.now.size b.now.ranks.now.low × (length out.old ≡ row_words n) }
+    requires { Sided n a.now b.now × (length out.old ≡ row_words n) }
     ensures { CarriedOver n a.now.row.now a.now.keep.now b.now.row.now b.now.keep.now
         from.now to.old to.new out.new }
 {

@@ -5,10 +5,12 @@ use Rattle.counters.proofs.round.Goals as goal
 pub renew-requires : goal.renew-requires
 renew-requires c =
     let a = c.args in (
-      ready_mergeable a.n a.row.now a.candidates.now a.counter.now c.requires.0 _ _ _ c.count_run.ensures
-          c.agreements.ensures c.requires.1,
-      c.fill.ensures.ranked,
-      c.fill-2.ensures.ranked,
+      record {
+        agree = ready_mergeable a.n a.row.now a.candidates.now a.counter.now c.requires.0 _ _ _ c.count_run.ensures
+            c.agreements.ensures c.requires.1;
+        first = c.fill.ensures.ranked;
+        second = c.fill-2.ensures.ranked;
+      },
       c.requires.3,
     )
 
