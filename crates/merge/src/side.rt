@@ -23,7 +23,7 @@ pub struct Side<'a> {
 impl Side<'_> {
     // The first node from v on that is kept, or the number of nodes.
     #[tactic(auto, using(passes::proofs::StandardRows::standard_rows))]
-    pub fn next_kept(&self, v: usize) -> usize
+    pub(crate) fn next_kept(&self, v: usize) -> usize
         requires { v ≤ nodes self.now.row.row.now }
         ensures { Next self.now.keep.now v (nodes self.now.row.row.now) result }
     {
@@ -38,7 +38,7 @@ impl Side<'_> {
 
     // The rank of node v, and after the last node a number greater than every rank: a None would come before all.
     #[tactic(auto, using(passes::proofs::StandardRows::standard_rows))]
-    pub fn rank_or_end(&self, v: usize) -> usize
+    pub(crate) fn rank_or_end(&self, v: usize) -> usize
         ensures { result ≡ rank_or_end self.now.row.n (nodes self.now.row.row.now) self.now.ranks.now.size self.now.ranks.now.low v }
     {
         if nodes(self.row.row) <= v {
@@ -49,7 +49,7 @@ impl Side<'_> {
 
     // If `taken`, gives node v the number c and answers the next node that is kept; otherwise answers v.
     #[tactic(auto, using(passes::proofs::StandardRows::standard_rows))]
-    pub fn give(&self, num: &mut Table, v: usize, c: usize, taken: bool) -> usize
+    pub(crate) fn give(&self, num: &mut Table, v: usize, c: usize, taken: bool) -> usize
         requires { (c < table_words) × (taken ≡ true → v < nodes self.now.row.row.now) }
         ensures { Given num.old self.now.keep.now v (nodes self.now.row.row.now) c taken num.new result }
     {
