@@ -6,8 +6,8 @@ ghost use Rattle.std.specs.Prelude.{◌≡◌, ◌+◌, ◌<◌, ◌≤◌, leng
 ghost use Rattle.trees.specs.Rows.{nodes};
 ghost use Rattle.trees.specs.Checks.{row_words};
 ghost use Rattle.trees.specs.Tables.{table_words};
-ghost use Rattle.trees.specs.Merging.{Mergeable};
 ghost use Rattle.merge.specs.Carrying.{CarriedOver};
+ghost use Rattle.merge.specs.Siding.{Sided};
 ghost use Rattle.counters.specs.Rounds.{turned, turned_in, turned_by, Turned, weight, weights, Room, Ready, Rounded};
 
 use conflict::{agreements, sides};
@@ -84,8 +84,7 @@ fn count_run(candidates: &Chart, run: &Chart, counter: &mut Table, keep: &mut [b
 // The next candidates: those that stay, and the groups of the run that enter. The counters of those that stay are
 // handed on, and what is new has the weight of the run.
 fn renew(stay: &Side, come: &Side, counter: &Table, fresh: &mut Table, out: &mut [u16])
-    requires { Mergeable stay.now.row.n stay.now.row.row.now stay.now.keep.now come.now.row.row.now come.now.keep.now
-        × (come.now.row.n ≡ stay.now.row.n) × (length out.old ≡ row_words stay.now.row.n) }
+    requires { Sided stay.now come.now × (length out.old ≡ row_words stay.now.row.n) }
     ensures { CarriedOver stay.now.row.n stay.now.row.row.now stay.now.keep.now come.now.row.row.now come.now.keep.now
         counter.now weights fresh.new out.new }
 {

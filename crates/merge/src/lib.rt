@@ -2,75 +2,24 @@
 #![tactic(auto)]
 
 mod carrying;
+mod side;
 
-ghost use Rattle.std.specs.Prelude.{◌≡◌, true, cond, eqb, ◌<◌, ◌≤◌, max, length};
+ghost use Rattle.std.specs.Prelude.{◌≡◌, cond, eqb, ◌<◌, ◌≤◌, max, length};
 ghost use Rattle.trees.specs.Rows.{nodes, parent};
 ghost use Rattle.trees.specs.Checks.{row_words};
 ghost use Rattle.trees.specs.Numbering.{row_of};
 ghost use Rattle.trees.specs.Tables.{Tabled, table_words, entry};
-ghost use Rattle.trees.specs.Passes.{Ranked};
 ghost use Rattle.trees.specs.Merging.{merged, Mergeable};
-ghost use Rattle.trees.specs.Lockstep.{Next, blank, rank_or_end, Chosen, Given, Numbered};
+ghost use Rattle.trees.specs.Lockstep.{blank, rank_or_end, Chosen, Numbered};
 ghost use Rattle.trees.specs.Climbing.{Raised, climbed, Lifted, Climbable, parent_of, word_of};
 ghost use Rattle.merge.specs.Settling.{Settled};
 ghost use Rattle.merge.specs.Carrying.{CarriedOver};
+ghost use Rattle.merge.specs.Siding.{Sided};
 
 use carrying::carry;
 use judge::{MOST_SAMPLES, ROOT_MARK, StandardRow, nodes, parent};
 use passes::{RANK_STEP, Ranks, TABLE, Table};
-
-// A number greater than every rank.
-const RANK_END: usize = 1048576;
-
-// One side of a merging: a row, its ranks, and which of its groups are kept.
-#[derive(Clone, Copy)]
-pub struct Side<'a> {
-    pub row: StandardRow<'a>,
-    pub ranks: &'a Ranks,
-    pub keep: &'a [bool; TABLE],
-    ghost ranked: { Ranked row.n row.row.now ranks.now.size ranks.now.low },
-}
-
-impl Side<'_> {
-    // The first node from v on that is kept, or the number of nodes.
-    #[tactic(auto, using(passes::proofs::StandardRows::standard_rows))]
-    fn next_kept(&self, v: usize) -> usize
-        requires { v ≤ nodes self.now.row.row.now }
-        ensures { Next self.now.keep.now v (nodes self.now.row.row.now) result }
-    {
-        let m = nodes(self.row.row);
-        for u in v..m {
-            if self.keep[u] {
-                return u;
-            }
-        }
-        m
-    }
-
-    // The rank of node v, and after the last node a number greater than every rank: a None would come before all.
-    #[tactic(auto, using(passes::proofs::StandardRows::standard_rows))]
-    fn rank_or_end(&self, v: usize) -> usize
-        ensures { result ≡ rank_or_end self.now.row.n (nodes self.now.row.row.now) self.now.ranks.now.size self.now.ranks.now.low v }
-    {
-        if nodes(self.row.row) <= v {
-            return RANK_END;
-        }
-        self.ranks.rank(self.row.n, v)
-    }
-
-    // If `taken`, gives node v the number c and answers the next node that is kept; otherwise answers v.
-    #[tactic(auto, using(passes::proofs::StandardRows::standard_rows))]
-    fn give(&self, num: &mut Table, v: usize, c: usize, taken: bool) -> usize
-        requires { (c < table_words) × (taken ≡ true → v < nodes self.now.row.row.now) }
-        ensures { Given num.old self.now.keep.now v (nodes self.now.row.row.now) c taken num.new result }
-    {
-        if !taken {
-            return v;
-        }
-        num[v] = c as u16;
-        self.next_kept(v + 1)
-    }
-}
+pub use side::Side;
 
 // Whether the first row's node takes the next number, whether the second's does, and the smallest sample of their group.
 #[derive(Clone, Copy, Debug, PartialEq, Eq)]
@@ -104,8 +53,7 @@ fn choose_next(a: &Side, x: usize, b: &Side, y: usize) -> Choice
 // smallest sample, and answers the first number that is left.
 #[tactic(auto, using(passes::proofs::StandardRows::standard_nodes))]
 fn lockstep(a: &Side, b: &Side, num_a: &mut Table, num_b: &mut Table, mins: &mut Table) -> usize
-    requires { Mergeable a.now.row.n a.now.row.row.now a.now.keep.now b.now.row.row.now b.now.keep.now
-        × (b.now.row.n ≡ a.now.row.n) × (num_a.old ≡ blank) × (num_b.old ≡ blank) }
+    requires { Sided a.now b.now × (num_a.old ≡ blank) × (num_b.old ≡ blank) }
     ensures { Numbered a.now.row.n a.now.row.row.now a.now.keep.now b.now.row.row.now b.now.keep.now
         num_a.new num_b.new mins.new result }
 {
@@ -241,8 +189,7 @@ fn write_row(a: &Ladder, b: &Ladder, parents: &Table, c: usize, out: &mut [u16])
 // Writes the row of the groups that are kept of two standard rows, where these agree and the whole is among them.
 // It tells at which node each kept group of the first row has come.
 fn merge_ranked(a: &Side, b: &Side, num: &mut Table, out: &mut [u16])
-    requires { Mergeable a.now.row.n a.now.row.row.now a.now.keep.now b.now.row.row.now b.now.keep.now
-        × (b.now.row.n ≡ a.now.row.n) × (length out.old ≡ row_words a.now.row.n) }
+    requires { Sided a.now b.now × (length out.old ≡ row_words a.now.row.n) }
     ensures { (out.new ≡ row_of a.now.row.n (merged a.now.row.n a.now.row.row.now a.now.keep.now b.now.row.row.now b.now.keep.now))
         × Settled a.now.row.n a.now.row.row.now a.now.keep.now num.new out.new }
 {
@@ -267,8 +214,7 @@ fn merge_ranked(a: &Side, b: &Side, num: &mut Table, out: &mut [u16])
 // The same row, and what the kept nodes of the first row have in a table is carried over to where they have come.
 #[tactic(auto, using(passes::proofs::StandardRows::standard_rows))]
 pub fn merge_carried(a: &Side, b: &Side, from: &Table, to: &mut Table, out: &mut [u16])
-    requires { Mergeable a.now.row.n a.now.row.row.now a.now.keep.now b.now.row.row.now b.now.keep.now
-        × (b.now.row.n ≡ a.now.row.n) × (length out.old ≡ row_words a.now.row.n) }
+    requires { Sided a.now b.now × (length out.old ≡ row_words a.now.row.n) }
     ensures { CarriedOver a.now.row.n a.now.row.row.now a.now.keep.now b.now.row.row.now b.now.keep.now
         from.now to.old to.new out.new }
 {

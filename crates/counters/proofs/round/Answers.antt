@@ -6,9 +6,11 @@ use Rattle.counters.proofs.round.Goals as goal
 pub renew-requires : goal.renew-requires
 renew-requires c =
     let a = c.args in (
-      ready_mergeable a.candidates.n a.row.row.now a.candidates.row.now a.counter.now (standard_over a.row.standard c.requires.0) _ _ _
-          c.count_run.ensures (rw c.requires.0 at c.agreements.ensures) c.requires.1,
-      c.requires.0,
+      record {
+        agree = ready_mergeable a.candidates.n a.row.row.now a.candidates.row.now a.counter.now (standard_over a.row.standard c.requires.0) _ _ _
+            c.count_run.ensures (rw c.requires.0 at c.agreements.ensures) c.requires.1;
+        same = c.requires.0;
+      },
       c.requires.3,
     )
 

@@ -7,11 +7,11 @@ use Rattle.merge.proofs.merge_carried.Goals as goal
 
 pub carry-requires : goal.carry-requires
 carry-requires c =
-    let q = c.requires.0.first in
+    let q = c.requires.0.agree.first in
     let moves = rw c.merge_ranked.ensures.0 at c.merge_ranked.ensures.1 in (
       omega (arith, c.nodes.ensures, few _ _ (standard_falls _ _ q)),
       omega (arith, c.nodes.ensures, q.valid.low),
-      rw c.nodes.ensures (settled_apart q (merged_standard c.requires.0) moves),
+      rw c.nodes.ensures (settled_apart q (merged_standard c.requires.0.agree) moves),
     )
 
 pub returns : goal.returns

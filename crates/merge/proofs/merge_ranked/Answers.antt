@@ -8,19 +8,19 @@ use Rattle.merge.proofs.merge_ranked.Goals as goal
 pub lockstep-c-requires : goal.lockstep-c-requires
 unfolding blank
 lockstep-c-requires c =
-    (c.requires.0, c.requires.1, refl, refl)
+    (c.requires.0, refl, refl)
 
 pub parents-requires : goal.parents-requires
 parents-requires c =
-    (merged_climbable c.requires.0 c.lockstep-c.ensures c.raise.ensures (rw c.requires.1 at c.raise-2.ensures), c.requires.1)
+    (merged_climbable c.requires.0.agree c.lockstep-c.ensures c.raise.ensures (rw c.requires.0.same at c.raise-2.ensures), c.requires.0.same)
 
 pub write_row-requires : goal.write_row-requires
 write_row-requires c =
-    let ready = merged_climbable c.requires.0 c.lockstep-c.ensures c.raise.ensures (rw c.requires.1 at c.raise-2.ensures) in
-    (c.requires.1, ready.most, c.requires.2)
+    let ready = merged_climbable c.requires.0.agree c.lockstep-c.ensures c.raise.ensures (rw c.requires.0.same at c.raise-2.ensures) in
+    (c.requires.0.same, ready.most, c.requires.1)
 
 pub returns : goal.returns
 returns c =
-    let long = c.write_row.auto.out ∙ c.requires.2 in
-    let e = merged_row c.requires.0 c.lockstep-c.ensures c.raise.ensures (rw c.requires.1 at c.raise-2.ensures) c.parents.ensures long c.write_row.ensures in
-    (e, rw e (merged_settled c.requires.0 c.lockstep-c.ensures c.raise.ensures))
+    let long = c.write_row.auto.out ∙ c.requires.1 in
+    let e = merged_row c.requires.0.agree c.lockstep-c.ensures c.raise.ensures (rw c.requires.0.same at c.raise-2.ensures) c.parents.ensures long c.write_row.ensures in
+    (e, rw e (merged_settled c.requires.0.agree c.lockstep-c.ensures c.raise.ensures))

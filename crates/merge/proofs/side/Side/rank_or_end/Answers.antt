@@ -1,4 +1,4 @@
--- `merge::Side::rank_or_end` answers by whether there is such a node. Assumes nothing.
+-- `merge::side::Side::rank_or_end` answers by whether there is such a node. Assumes nothing.
 use Rattle.std.proofs.Common.{◌<◌, arith, lt-ltb}
 use borrow.Author.Tests.{le-ltb}
 use Rattle.trees.specs.Lockstep.{rank_or_end}
@@ -6,7 +6,7 @@ use Rattle.trees.specs.Rows.{nodes}
 use Rattle.passes.proofs.StandardRows.{standard_few}
 use Rattle.trees.proofs.StandardLaws.{standard_to}
 use Rattle.trees.proofs.LinearLaws.{ranked_most}
-use Rattle.merge.proofs.Side.rank_or_end.Goals as goal
+use Rattle.merge.proofs.side.Side.rank_or_end.Goals as goal
 
 pub returns-then-nodes-v : goal.returns-then-nodes-v
 unfolding rank_or_end
