@@ -49,11 +49,7 @@ fn common(a: StandardRow, b: StandardRow) -> usize
     let mut places = Places::EMPTY;
     let mut mate: Table = [0; TABLE];
     places.fill(a);
-    let chart = Chart {
-        reference: a,
-        places: &places,
-    };
-    mates(&chart, b, &mut mate);
+    mates(&Chart::of(a, &places), b, &mut mate);
     mated(a.n + 1, judge::nodes(a.row), &mate)
 }
 

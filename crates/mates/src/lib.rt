@@ -47,6 +47,17 @@ pub struct Chart<'a> {
     ghost tables: { Tables reference.n reference.row.now places.now.ranks.size places.now.ranks.low places.now.start },
 }
 
+impl<'a> Chart<'a> {
+    // The chart of a row whose places are given.
+    pub fn of(reference: StandardRow<'a>, places: &'a Places) -> Chart<'a>
+        requires { Tables reference.n reference.row.now places.now.ranks.size places.now.ranks.low places.now.start }
+        ensures row { result.reference ≡ reference.entry }
+        ensures places { result.places ≡ places.entry }
+    {
+        Chart { reference, places }
+    }
+}
+
 // The first and the last place of each node's group, by the places of a reference row; the last is counted from the end.
 #[derive(Clone, Copy)]
 pub struct Ends {

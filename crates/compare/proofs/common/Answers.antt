@@ -9,4 +9,4 @@ pub returns : goal.returns
 returns c =
     let a = c.args.a in
     rw c.nodes.ensures at c.mated.ensures
-    ∙ mates_held a.n a.row.now c.args.b.row.now (standard_to _ _ a.standard) (standard_over c.args.b.standard c.requires) _ c.mates.ensures
+    ∙ mates_held a.n a.row.now c.args.b.row.now (standard_to _ _ a.standard) (standard_over c.args.b.standard c.requires) _ (rw c.of.ensures.row at c.mates.ensures)
