@@ -20,9 +20,6 @@ use judge::{StandardRow, nodes};
 use mates::{Chart, Ends};
 use passes::{TABLE, Table};
 
-// A flag for each node.
-pub type FlagTable = [bool; TABLE];
-
 // What each node of a chart's row reaches in another row.
 fn reaches(chart: &Chart, row: StandardRow, reached: &mut Reaches)
     requires { row.n ≡ chart.now.reference.n }
@@ -50,7 +47,7 @@ fn covers(n: usize, size: u16, start: u16, reach: Reach) -> bool
 }
 
 // Flags those nodes from n to below m that pass a test.
-fn mark<F: Fn(usize) -> bool>(n: usize, m: usize, test: F, flags: &mut FlagTable)
+fn mark<F: Fn(usize) -> bool>(n: usize, m: usize, test: F, flags: &mut [bool; TABLE])
     requires bound { m ≤ table_words }
     requires calls { (v : ℕ) → n ≤ v → v < m → F.pre test v }
     ensures { (v : ℕ) → n ≤ v → v < m → F.post test v (get_or flags.new v false) }
@@ -62,7 +59,7 @@ fn mark<F: Fn(usize) -> bool>(n: usize, m: usize, test: F, flags: &mut FlagTable
 
 // For each inner node of a chart's row, whether another row agrees with its group.
 #[tactic(auto, using(passes::proofs::StandardRows::standard_rows))]
-pub fn agreements(chart: &Chart, row: StandardRow, agrees: &mut FlagTable)
+pub fn agreements(chart: &Chart, row: StandardRow, agrees: &mut [bool; TABLE])
     requires { row.n ≡ chart.now.reference.n }
     ensures { Flags (λ h. not (conflicts chart.now.reference.n (group_at chart.now.reference.n chart.now.reference.row.now h) row.entry.row.now))
         chart.now.reference.n (nodes chart.now.reference.row.now) agrees.new }
@@ -73,7 +70,12 @@ pub fn agreements(chart: &Chart, row: StandardRow, agrees: &mut FlagTable)
     mark(
         n,
         nodes(chart.reference.row),
-        |v| covers(n, chart.places.ranks.size[v], chart.places.start[v], reached[v]),
+        |v| covers(
+            n,
+            chart.places.ranks.size[v],
+            chart.places.start[v],
+            reached[v],
+        ),
         agrees,
     );
 }
@@ -84,8 +86,8 @@ pub fn sides(
     chart: &Chart,
     row: StandardRow,
     sizes: &Table,
-    held: &mut FlagTable,
-    agrees: &mut FlagTable,
+    held: &mut [bool; TABLE],
+    agrees: &mut [bool; TABLE],
 )
     requires { (row.n ≡ chart.now.reference.n) × Tabled (size_at row.n row.row.now) 0 (nodes row.row.now) sizes.now }
     ensures flags { Flags (λ h. holds chart.now.reference.n (group_at chart.now.reference.n chart.now.reference.row.now h) row.entry.row.now)

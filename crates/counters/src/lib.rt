@@ -5,17 +5,14 @@
 ghost use Rattle.std.specs.Prelude.{◌≡◌, ◌+◌, ◌<◌, ◌≤◌, length};
 ghost use Rattle.trees.specs.Rows.{nodes};
 ghost use Rattle.trees.specs.Checks.{row_words};
-ghost use Rattle.trees.specs.Valid.{Standard};
-ghost use Rattle.trees.specs.Tables.{Tabled, table_words, size_at};
-ghost use Rattle.trees.specs.Passes.{Ranked};
-ghost use Rattle.trees.specs.Mates.{Tables};
+ghost use Rattle.trees.specs.Tables.{table_words};
 ghost use Rattle.trees.specs.Merging.{Mergeable};
 ghost use Rattle.merge.specs.Carrying.{CarriedOver};
 ghost use Rattle.counters.specs.Rounds.{turned, turned_in, turned_by, Turned, weight, weights, Room, Ready, Rounded};
 
 use conflict::{agreements, sides};
-use judge::nodes;
-use mates::Chart;
+use judge::{StandardRow, nodes};
+use mates::{Chart, Places};
 use merge::{Side, merge_carried};
 use passes::{TABLE, Table};
 
@@ -56,88 +53,84 @@ fn sweep(
     }
 }
 
-// Counts a run, whose row this is, at the candidates: their counters, and which of them stay.
-fn count_run(
-    n: usize,
-    candidates: &[u16],
-    chart: &Chart,
-    row: &[u16],
-    sizes: &Table,
-    counter: &mut Table,
-    keep: &mut [bool; TABLE],
-)
-    requires { Standard n candidates.now
-        × Tables n candidates.now chart.now.ranks.size chart.now.ranks.low chart.now.start
-        × Standard n row.now × Tabled (size_at n row.now) 0 (nodes row.now) sizes.now
-        × Room n (nodes candidates.now) weight counter.old }
-    ensures { Turned (turned_by n weight candidates.now row.now counter.old) n
-        (nodes candidates.now) counter.new keep.new }
+// Counts a run, of whose row this is the chart, at the candidates: their counters, and which of them stay.
+#[tactic(auto, using(passes::proofs::StandardRows::standard_nodes))]
+fn count_run(candidates: &Chart, run: &Chart, counter: &mut Table, keep: &mut [bool; TABLE])
+    requires { (run.now.reference.n ≡ candidates.now.reference.n)
+        × Room candidates.now.reference.n (nodes candidates.now.reference.row.now) weight counter.old }
+    ensures { Turned (turned_by candidates.now.reference.n weight candidates.now.reference.row.now run.now.reference.row.now counter.old)
+        candidates.now.reference.n (nodes candidates.now.reference.row.now) counter.new keep.new }
 {
     let mut held = [false; TABLE];
     let mut agrees = [false; TABLE];
-    sides(n, candidates, chart, row, sizes, &mut held, &mut agrees);
-    sweep(n, nodes(candidates), &held, &agrees, counter, keep);
+    sides(
+        candidates,
+        run.reference,
+        &run.places.ranks.size,
+        &mut held,
+        &mut agrees,
+    );
+    let reference = candidates.reference;
+    sweep(
+        reference.n,
+        nodes(reference.row),
+        &held,
+        &agrees,
+        counter,
+        keep,
+    );
 }
 
 // The next candidates: those that stay, and the groups of the run that enter. The counters of those that stay are
 // handed on, and what is new has the weight of the run.
-fn renew(
-    n: usize,
-    candidates: &Side,
-    run: &Side,
-    counter: &Table,
-    fresh: &mut Table,
-    out: &mut [u16],
-)
-    requires { Mergeable n candidates.now.row.now candidates.now.keep.now run.now.row.now run.now.keep.now
-        × Ranked n candidates.now.row.now candidates.now.ranks.now.size candidates.now.ranks.now.low
-        × Ranked n run.now.row.now run.now.ranks.now.size run.now.ranks.now.low × (length out.old ≡ row_words n) }
-    ensures { CarriedOver n candidates.now.row.now candidates.now.keep.now run.now.row.now run.now.keep.now
+fn renew(stay: &Side, come: &Side, counter: &Table, fresh: &mut Table, out: &mut [u16])
+    requires { Mergeable stay.now.row.n stay.now.row.row.now stay.now.keep.now come.now.row.row.now come.now.keep.now
+        × (come.now.row.n ≡ stay.now.row.n) × (length out.old ≡ row_words stay.now.row.n) }
+    ensures { CarriedOver stay.now.row.n stay.now.row.row.now stay.now.keep.now come.now.row.row.now come.now.keep.now
         counter.now weights fresh.new out.new }
 {
     *fresh = [WEIGHT; TABLE];
-    merge_carried(n, candidates, run, counter, fresh, out);
+    merge_carried(stay, come, counter, fresh, out);
 }
 
 // One round with the run of this row: the next candidates in `out`, and their counters in `fresh`.
 pub fn round(
-    n: usize,
-    row: &[u16],
-    candidates: &[u16],
+    row: StandardRow,
+    candidates: StandardRow,
     counter: &mut Table,
     fresh: &mut Table,
     out: &mut [u16],
 )
-    requires { Standard n row.now × Ready n candidates.now counter.old
-        × Room n (nodes candidates.now) weight counter.old × (length out.old ≡ row_words n) }
-    ensures { Rounded n weight row.now candidates.now counter.old
+    requires { (row.n ≡ candidates.n) × Ready candidates.n candidates.row.now counter.old
+        × Room candidates.n (nodes candidates.row.now) weight counter.old × (length out.old ≡ row_words candidates.n) }
+    ensures { Rounded candidates.entry.n weight row.entry.row.now candidates.entry.row.now counter.old
         out.new fresh.new }
 {
-    let mut chart = Chart::EMPTY;
-    let mut run = Chart::EMPTY;
+    let mut places = Places::EMPTY;
+    let mut run_places = Places::EMPTY;
     let mut keep = [false; TABLE];
     let mut enter = [false; TABLE];
-    chart.fill(n, candidates);
-    run.fill(n, row);
-    count_run(
-        n,
-        candidates,
-        &chart,
-        row,
-        &run.ranks.size,
-        counter,
-        &mut keep,
-    );
-    agreements(n, row, &run, candidates, &mut enter);
+    places.fill(candidates);
+    run_places.fill(row);
+    let chart = Chart {
+        reference: candidates,
+        places: &places,
+    };
+    let run = Chart {
+        reference: row,
+        places: &run_places,
+    };
+    count_run(&chart, &run, counter, &mut keep);
+    agreements(&run, candidates, &mut enter);
     let stay = Side {
         row: candidates,
-        ranks: &chart.ranks,
+        ranks: &places.ranks,
         keep: &keep,
     };
     let come = Side {
         row,
-        ranks: &run.ranks,
+        ranks: &run_places.ranks,
         keep: &enter,
     };
-    renew(n, &stay, &come, counter, fresh, out);
+    renew(&stay, &come, counter, fresh, out);
 }
