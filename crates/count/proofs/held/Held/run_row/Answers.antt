@@ -16,5 +16,7 @@ slot_row-requires c =
 
 pub invariant_of-result : goal.invariant_of-result
 invariant_of-result c =
-    record { standard = rw (c.slot_row.ensures, c.slot_start.ensures)
-    (standard_from _ _ (study_standard _ _ _ (held_study c.args.self) c.args.j c.requires)) }
+    record {
+      standard = rw (c.slot_row.ensures, c.slot_start.ensures)
+          (standard_from _ _ (study_standard _ _ _ (held_study c.args.self) c.args.j c.requires));
+    }
