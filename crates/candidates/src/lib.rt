@@ -14,7 +14,7 @@ ghost use Rattle.candidates.specs.Candidates.{Candidates, Enough, Agreed};
 
 use count::{Held, bare, holders, marks, references};
 use counters::round;
-use judge::nodes;
+use judge::{StandardRow, nodes};
 use merge::{Side, merge_carried};
 use passes::{Ranks, TABLE, Table};
 
@@ -25,7 +25,11 @@ fn take_in(study: Held, i: usize, row: &mut [u16], counter: &mut Table, spare: &
     ensures { Tied study.entry.n (tally_at study.entry.n (runs study.entry.words.now) (i + 1)) row.new counter.new }
 {
     let mut fresh: Table = [0; TABLE];
-    round(study.n, study.run_row(i), row, counter, &mut fresh, spare);
+    let tree = StandardRow {
+        n: study.n,
+        row,
+    };
+    round(study.run_row(i), tree, counter, &mut fresh, spare);
     row.copy_from_slice(spare);
     *counter = fresh;
 }
@@ -44,24 +48,24 @@ fn candidates(study: Held, row: &mut [u16], spare: &mut [u16])
 
 // Writes the row of the kept groups of a row, and what its nodes have in a table where they have come.
 fn keep_groups(
-    n: usize,
-    row: &[u16],
+    row: StandardRow,
     keep: &[bool; TABLE],
     from: &Table,
     to: &mut Table,
     out: &mut [u16],
 )
-    requires { Mergeable n row.now keep.now row.now keep.now × (length out.old ≡ row_words n) }
-    ensures { CarriedOver n row.now keep.now row.now keep.now
+    requires { Mergeable row.n row.row.now keep.now row.row.now keep.now × (length out.old ≡ row_words row.n) }
+    ensures { CarriedOver row.entry.n row.entry.row.now keep.now row.entry.row.now keep.now
         from.now to.old to.new out.new }
 {
-    let ranks = Ranks::of(n, row);
+    let mut ranks = Ranks::EMPTY;
+    ranks.fill(row.falling());
     let side = Side {
         row,
         ranks: &ranks,
         keep,
     };
-    merge_carried(n, &side, &side, from, to, out);
+    merge_carried(&side, &side, from, to, out);
 }
 
 // A row that has every group which can be shown at threshold t: the first run, where it holds each of them; else the
@@ -71,30 +75,36 @@ fn enough(study: Held, t: usize, row: &mut [u16], spare: &mut [u16])
     ensures { Enough study.entry.n study.entry.words.now t row.new }
 {
     if references(t, study.k) == 1 {
-        row.copy_from_slice(study.run_row(0));
+        row.copy_from_slice(study.run_row(0).row);
         return;
     }
     candidates(study, row, spare);
 }
 
 // What is shown of such a row at threshold t, by an exact count of the holders of its groups: the second pass.
-fn finish(study: Held, t: usize, row: &[u16], out: &mut [u16]) -> Table
-    requires { (0 < study.k) × InRange t × Enough study.n study.words.now t row.now × (length out.old ≡ row_words study.n) }
-    ensures { Agreed study.entry.n study.entry.words.now t out.new result }
+#[tactic(auto, using(passes::proofs::StandardRows::standard_rows))]
+fn finish(study: Held, t: usize, row: StandardRow, out: &mut [u16], held: &mut Table)
+    requires { (0 < study.k) × InRange t × (row.n ≡ study.n) × Enough study.n study.words.now t row.row.now
+        × (length out.old ≡ row_words study.n) }
+    ensures { Agreed study.entry.n study.entry.words.now t out.new held.new }
 {
-    let counts = holders(study, row);
-    let keep = marks(study.n, nodes(row), t, study.k, &counts);
-    let mut held: Table = [0; TABLE];
-    keep_groups(study.n, row, &keep, &counts, &mut held, out);
-    held
+    let mut counts: Table = [0; TABLE];
+    let mut keep = [false; TABLE];
+    holders(study, row, &mut counts);
+    marks(study.n, nodes(row.row), t, study.k, &counts, &mut keep);
+    keep_groups(row, &keep, &counts, held, out);
 }
 
 // The agreed row at threshold t, and how many runs hold the group of each of its inner nodes; `spare` is a buffer to
 // work in.
-pub fn agreed_row(study: Held, t: usize, out: &mut [u16], spare: &mut [u16]) -> Table
+pub fn agreed_row(study: Held, t: usize, out: &mut [u16], spare: &mut [u16], held: &mut Table)
     requires { (0 < study.k) × InRange t × (length out.old ≡ row_words study.n) × (length spare.old ≡ row_words study.n) }
-    ensures { Agreed study.entry.n study.entry.words.now t out.new result }
+    ensures { Agreed study.entry.n study.entry.words.now t out.new held.new }
 {
     enough(study, t, spare, out);
-    finish(study, t, spare, out)
+    let tree = StandardRow {
+        n: study.n,
+        row: spare,
+    };
+    finish(study, t, tree, out, held);
 }

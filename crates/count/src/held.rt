@@ -1,10 +1,10 @@
 // A study as a count reads it.
 ghost use Rattle.std.specs.Prelude.{◌≡◌, ◌<◌, true};
-ghost use Rattle.trees.specs.Valid.{Standard};
 ghost use Rattle.runs.specs.Words.{samples, in_force};
 ghost use Rattle.runs.specs.Formed.{well_formed, Formed};
 ghost use Rattle.count.specs.Studies.{row_at};
 
+use judge::StandardRow;
 use slots::{in_force, samples, slot_row, slot_start};
 
 // A well-formed study: its words, over n samples, with k runs in force.
@@ -33,11 +33,14 @@ impl<'a> Held<'a> {
     }
 
     // The row of run j.
-    pub fn run_row(self, j: usize) -> &'a [u16]
+    pub fn run_row(self, j: usize) -> StandardRow<'a>
         requires { j < self.k }
-        ensures row { result.now ≡ row_at self.entry.n self.entry.words.now j }
-        ensures standard { Standard self.entry.n result.now }
+        ensures samples { result.n ≡ self.entry.n }
+        ensures row { result.row.now ≡ row_at self.entry.n self.entry.words.now j }
     {
-        slot_row(self.words, self.n, slot_start(self.n, j))
+        StandardRow {
+            n: self.n,
+            row: slot_row(self.words, self.n, slot_start(self.n, j)),
+        }
     }
 }

@@ -1,15 +1,14 @@
 // How many runs of a study hold the group of each inner node of a reference row.
 ghost use Rattle.std.specs.Prelude.{◌≡◌, not, cond, ◌+◌, ◌<◌, ◌≤◌, eqb};
 ghost use Rattle.trees.specs.Rows.{nodes, holds};
-ghost use Rattle.trees.specs.Valid.{Standard};
 ghost use Rattle.trees.specs.Tables.{Tabled, table_words};
-ghost use Rattle.trees.specs.Mates.{no_mate, Tables};
+ghost use Rattle.trees.specs.Mates.{no_mate};
 ghost use Rattle.runs.specs.Words.{runs, most_runs};
 ghost use Rattle.count.specs.Holders.{holders_at, with_mate, with_run, Under};
 
 use crate::held::Held;
-use judge::nodes;
-use mates::{Chart, NO_MATE, mates};
+use judge::{StandardRow, nodes};
+use mates::{Chart, NO_MATE, Places, mates};
 use passes::{TABLE, Table};
 
 // A count, and one more where there is a mate.
@@ -30,27 +29,31 @@ fn tally(n: usize, m: usize, mate: &Table, holders: &mut Table)
     }
 }
 
-// Counts one run, whose row this is: one more for each inner group of the reference that it holds.
-fn count_run(n: usize, reference: &[u16], chart: &Chart, row: &[u16], holders: &mut Table)
-    requires { Standard n reference.now × Tables n reference.now chart.now.ranks.size chart.now.ranks.low chart.now.start
-        × Standard n row.now × Under most_runs n (nodes reference.now) holders.old }
-    ensures { Tabled (with_run (holds n) n reference.now row.now holders.old) n (nodes reference.now) holders.new }
+// Counts one run, whose row this is: one more for each inner group of the chart's row that it holds.
+#[tactic(auto, using(passes::proofs::StandardRows::standard_nodes))]
+fn count_run(chart: &Chart, row: StandardRow, holders: &mut Table)
+    requires { (row.n ≡ chart.now.reference.n)
+        × Under most_runs chart.now.reference.n (nodes chart.now.reference.row.now) holders.old }
+    ensures { Tabled (with_run (holds chart.now.reference.n) chart.now.reference.n chart.now.reference.row.now row.entry.row.now holders.old)
+        chart.now.reference.n (nodes chart.now.reference.row.now) holders.new }
 {
-    let mate = mates(n, reference, chart, row);
-    tally(n, nodes(reference), &mate, holders);
+    let reference = chart.reference;
+    let mut mate: Table = [0; TABLE];
+    mates(chart, row, &mut mate);
+    tally(reference.n, nodes(reference.row), &mate, holders);
 }
 
-// For each inner node of a standard row, how many runs of a study hold its group.
-pub fn holders(study: Held, reference: &[u16]) -> Table
-    requires { Standard study.n reference.now }
-    ensures { Tabled (holders_at study.entry.n (runs study.entry.words.now) reference.now)
-        study.entry.n (nodes reference.now) result }
+// For each inner node of a row over the samples of a study, how many runs of the study hold its group.
+pub fn holders(study: Held, reference: StandardRow, holders: &mut Table)
+    requires { reference.n ≡ study.n }
+    ensures { Tabled (holders_at study.entry.n (runs study.entry.words.now) reference.entry.row.now)
+        study.entry.n (nodes reference.entry.row.now) holders.new }
 {
-    let n = study.n;
-    let chart = Chart::of(n, reference);
-    let mut holders: Table = [0; TABLE];
+    let mut places = Places::EMPTY;
+    places.fill(reference);
+    let chart = Chart::of(reference, &places);
+    *holders = [0; TABLE];
     for j in 0..study.k {
-        count_run(n, reference, &chart, study.run_row(j), &mut holders);
+        count_run(&chart, study.run_row(j), holders);
     }
-    holders
 }

@@ -10,9 +10,9 @@ ghost use Rattle.count.specs.Plain.{bare_row, accepted};
 use crate::held::Held;
 use crate::holding::holders;
 use crate::rule::{marks, references};
-use judge::{ROOT_MARK, nodes};
+use judge::{ROOT_MARK, StandardRow, nodes};
 use merge::merge;
-use passes::TABLE;
+use passes::{TABLE, Table};
 
 // Word w of the row whose one inner node is the root.
 fn bare_word(n: usize, w: usize) -> u16
@@ -42,15 +42,22 @@ pub fn bare(n: usize, out: &mut [u16])
 }
 
 // Merges what is shown of run i at threshold t into what is accepted.
+#[tactic(auto, using(passes::proofs::StandardRows::standard_rows))]
 fn take_in(study: Held, t: usize, i: usize, out: &mut [u16], spare: &mut [u16])
     requires { (i < study.k) × (out.old ≡ accepted t study.n study.words.now i)
         × (length spare.old ≡ row_words study.n) × InRange t }
     ensures { out.new ≡ accepted t study.entry.n study.entry.words.now (i + 1) }
 {
-    let n = study.n;
-    let row = study.run_row(i);
-    let keep = marks(n, nodes(row), t, study.k, &holders(study, row));
-    merge(n, out, &[true; TABLE], row, &keep, spare);
+    let mut held: Table = [0; TABLE];
+    let mut keep = [false; TABLE];
+    let run = study.run_row(i);
+    holders(study, run, &mut held);
+    marks(study.n, nodes(run.row), t, study.k, &held, &mut keep);
+    let tree = StandardRow {
+        n: study.n,
+        row: out,
+    };
+    merge(tree, &[true; TABLE], run, &keep, spare);
     out.copy_from_slice(spare);
 }
 

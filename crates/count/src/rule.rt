@@ -20,15 +20,13 @@ fn is_shown(t: usize, k: usize, held: u16) -> bool
 }
 
 // Which of the nodes from n to below m are shown, by how many of k runs hold their groups.
-pub fn marks(n: usize, m: usize, t: usize, k: usize, holders: &Table) -> [bool; TABLE]
+pub fn marks(n: usize, m: usize, t: usize, k: usize, holders: &Table, keep: &mut [bool; TABLE])
     requires { (n ≤ m) × (m ≤ table_words) × (t ≤ most_threshold) × (k ≤ most_runs) }
-    ensures { Marked t k holders.now n m result }
+    ensures { Marked t k holders.now n m keep.new }
 {
-    let mut keep = [false; TABLE];
     for v in n..m {
         keep[v] = is_shown(t, k, holders[v]);
     }
-    keep
 }
 
 // How many of k runs are tried: one of them holds each group that is shown (`majority_early`).

@@ -3,23 +3,25 @@
 
 ghost use Rattle.std.specs.Prelude.{◌≡◌, length};
 ghost use Rattle.trees.specs.Checks.{accepted, row_words};
-ghost use Rattle.trees.specs.Valid.{Standard};
 ghost use Rattle.trees.specs.Reporting.{supports_of};
 ghost use Rattle.runs.specs.Words.{runs};
 ghost use Rattle.runs.specs.Reports.{reported};
 ghost use Rattle.judge.specs.Verdicts.{verdict};
 
 use count::{Held, agreed_row, holders};
-use judge::{Refusal, nodes};
+use judge::{Refusal, StandardRow, nodes};
+use passes::{TABLE, Table};
 use report::{report_checks, threshold, write_supports};
 
 // Writes the support row beside a row.
-fn support_row(study: Held, row: &[u16], out: &mut [u16])
-    requires { Standard study.n row.now × (length out.old ≡ row_words study.n) }
-    ensures { out.new ≡ supports_of study.entry.n (runs study.entry.words.now) row.now }
+#[tactic(auto, using(passes::proofs::StandardRows::standard_rows))]
+fn support_row(study: Held, row: StandardRow, out: &mut [u16])
+    requires { (row.n ≡ study.n) × (length out.old ≡ row_words study.n) }
+    ensures { out.new ≡ supports_of study.entry.n (runs study.entry.words.now) row.entry.row.now }
 {
-    let held = holders(study, row);
-    write_supports(study.n, nodes(row), study.k, &held, out);
+    let mut held: Table = [0; TABLE];
+    holders(study, row, &mut held);
+    write_supports(study.n, nodes(row.row), study.k, &held, out);
 }
 
 // Writes both rows of a report that its checks accept: the agreed row by the plain count, the support row by one count more.
@@ -30,7 +32,11 @@ fn plain_rows(words: &[u16], p: usize, agreed: &mut [u16], support: &mut [u16])
 {
     let study = Held::of(words);
     agreed_row(study, threshold(p), agreed, support);
-    support_row(study, agreed, support);
+    let tree = StandardRow {
+        n: study.n,
+        row: agreed,
+    };
+    support_row(study, tree, support);
 }
 
 // The report at p: a refusal that leaves both buffers as they were, or the agreed row and the support row.

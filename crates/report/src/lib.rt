@@ -15,7 +15,7 @@ ghost use Rattle.report.specs.Supports.{support_word};
 use candidates::agreed_row;
 use count::Held;
 use judge::{Reason, Refusal, line, nodes, words_both};
-use passes::Table;
+use passes::{TABLE, Table};
 use slots::{in_force, samples};
 use study::study_given;
 pub use thresholds::threshold;
@@ -85,7 +85,8 @@ fn both_rows(words: &[u16], p: usize, agreed: &mut [u16], support: &mut [u16])
     ensures support { support.new ≡ (reported words.now p agreed.old support.old).support_row }
 {
     let study = Held::of(words);
-    let held = agreed_row(study, threshold(p), agreed, support);
+    let mut held: Table = [0; TABLE];
+    agreed_row(study, threshold(p), agreed, support, &mut held);
     write_supports(study.n, nodes(agreed), study.k, &held, support);
 }
 

@@ -1,5 +1,6 @@
 -- `candidates::enough` takes the first run where one run is tried, and the candidates of all runs where there are more. Assumes nothing.
-use mathlib.Core.Path.{◌∙◌}
+use mathlib.Core.Path.{sym, ◌∙◌}
+use Rattle.passes.proofs.StandardRows.{standard_over}
 use Rattle.count.specs.StudyLaws.{held_study, study_few}
 use Rattle.candidates.specs.CandidateLaws.{candidates_enough, first_enough}
 use native.Mathlib.Omega.{arith}
@@ -19,3 +20,7 @@ pub returns : goal.returns
 returns c =
     let s = c.args.study in
     candidates_enough s.words.now s.n s.k (held_study s) c.args.t c.requires.0 c.requires.1 _ c.candidates.ensures
+
+pub copy_from_slice-requires : goal.copy_from_slice-requires
+copy_from_slice-requires c =
+    c.requires.2 ∙ sym (standard_over c.run_row.result.standard c.run_row.ensures.samples).valid.words

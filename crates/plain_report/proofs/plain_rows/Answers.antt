@@ -1,9 +1,10 @@
 -- `plain_report::plain_rows` writes the agreed row, and then the support row beside it. Assumes nothing.
 use Prim.Native.Nat.{◌<◌}
-use mathlib.Core.Path.{◌≡◌, ◌∙◌}
+use mathlib.Core.Path.{◌≡◌, refl, ◌∙◌}
 use lib.ListN.{length}
 use Rattle.trees.specs.Checks.{row_words}
 use Rattle.trees.specs.Thresholds.{InRange}
+use Rattle.trees.proofs.StandardLaws.{standard_from}
 use Rattle.count.specs.Studies.{Study}
 use Rattle.count.specs.StudyLaws.{study_agreed}
 use Rattle.report.specs.ReportedLaws.{report_study, report_asks, report_rows}
@@ -22,11 +23,16 @@ agreed_row-requires c =
     let o = asks (goal.at.agreed_row-requires c).After-threshold in
     (o.1, o.3, o.4, o.2)
 
+pub invariant_of-tree : goal.invariant_of-tree
+invariant_of-tree c =
+    let o = asks (goal.at.invariant_of-tree c).After-threshold in
+    let e = rw c.of-study.ensures.0 at c.agreed_row.ensures in
+    record { standard = rw e (standard_from _ _ (study_agreed _ _ _ o.0 o.1 _ o.2)) }
+
 pub support_row-requires : goal.support_row-requires
 support_row-requires c =
     let o = asks (goal.at.support_row-requires c).After-threshold in
-    let e = rw c.of-study.ensures.0 at c.agreed_row.ensures in
-    (rw e (study_agreed _ _ _ o.0 o.1 _ o.2), c.agreed_row.auto.spare ∙ o.4)
+    (refl, c.agreed_row.auto.spare ∙ o.4)
 
 pub returns : goal.returns
 returns c =

@@ -29,27 +29,27 @@ agreed_standard h = study_agreed _ _ _ (asks h).0 (asks h).1 h.threshold.result 
 pub of-study-requires : goal.of-study-requires
 of-study-requires c = report_study _ _ _ _ c.requires
 
-pub agreed_row-held-requires : goal.agreed_row-held-requires
-agreed_row-held-requires c =
-    let o = asks (goal.at.agreed_row-held-requires c).After-threshold in
+pub agreed_row-requires : goal.agreed_row-requires
+agreed_row-requires c =
+    let o = asks (goal.at.agreed_row-requires c).After-threshold in
     (o.1, o.2, o.3, o.4)
 
 pub nodes-requires : goal.nodes-requires
 nodes-requires c =
     let q = agreed_standard (goal.at.nodes-requires c).After-threshold in
-    let o = rw c.of-study.ensures.0 at c.agreed_row-held.ensures in
+    let o = rw c.of-study.ensures.0 at c.agreed_row.ensures in
     omega (arith, ap length o.row, q.valid.words, q.valid.least)
 
 pub write_supports-requires : goal.write_supports-requires
 write_supports-requires c =
-    let o = rw c.of-study.ensures.0 at c.agreed_row-held.ensures in
+    let o = rw c.of-study.ensures.0 at c.agreed_row.ensures in
     let q = rw (← o.row) at (agreed_standard (goal.at.write_supports-requires c).After-threshold) in
     (omega (arith, c.nodes.ensures, few _ _ (standard_falls _ _ q)), study_few _ _ _ (asks (goal.at.write_supports-requires c).After-threshold).0)
 
 pub returns : goal.returns
 returns c =
-    let o = rw c.of-study.ensures.0 at c.agreed_row-held.ensures in
-    let long = c.agreed_row-held.auto.spare ∙ (asks (goal.at.returns c).After-threshold).4 in
+    let o = rw c.of-study.ensures.0 at c.agreed_row.ensures in
+    let long = c.agreed_row.auto.spare ∙ (asks (goal.at.returns c).After-threshold).4 in
     let rows = report_rows _ _ _ _ c.requires _ _ c.of-study.ensures.1 c.threshold.ensures _ _ o.row
     (support-row _ _ _ (asks (goal.at.returns c).After-threshold).0 _ _ (rw (← o.row) at (agreed_standard (goal.at.returns c).After-threshold)) o.holders _ _
     c.nodes.ensures (c.write_supports.auto.out ∙ long) (rw long at c.write_supports.ensures)) in

@@ -10,34 +10,33 @@ use Rattle.count.proofs.holding.holders.Goals as goal
 
 pub loop-j-init : goal.loop-j-init
 loop-j-init c =
-    let s = c.args.study in
-    counting_start (holds s.n) s.n (runs s.words.now) c.args.reference.now
+    let q = c.args.reference in
+    counting_start (holds q.n) q.n (runs c.args.study.words.now) q.row.now
 
 pub count_run-requires : goal.count_run-requires
 count_run-requires c =
-    let a = c.args in
-    let s = a.study in (
-      c.requires,
-      c.of-chart.ensures,
-      c.run_row.ensures.standard,
-      counting_under (holds s.n) s.n (runs s.words.now) a.reference.now most_runs c.loop-j.j c.loop-j.holders
-          (omega (arith, study_few _ _ _ (held_study s))) c.loop-j.invariant,
+    let s = c.args.study in
+    let q = c.args.reference in
+    let e = c.of-chart.ensures.row in (
+      rw e (c.run_row.ensures.samples ∙ sym c.requires),
+      rw e (counting_under (holds q.n) q.n (runs s.words.now) q.row.now most_runs c.loop-j.j c.loop-j.holders
+          (omega (arith, study_few _ _ _ (held_study s))) c.loop-j.invariant),
     )
 
 pub loop-j-preserved : goal.loop-j-preserved
 loop-j-preserved c =
-    let a = c.args in
-    let s = a.study in
+    let s = c.args.study in
+    let q = c.args.reference in
     let o = held_study s in
     let d : Run = run_at s.n s.words.now c.loop-j.j in
-    counting_step (holds s.n) s.n (runs s.words.now) a.reference.now c.loop-j.j d _ c.loop-j.holders _
+    counting_step (holds q.n) q.n (runs s.words.now) q.row.now c.loop-j.j d _ c.loop-j.holders _
     (rw (study_length _ _ _ o) c.loop-j-test.true)
     (ap (λ (run : Run). run.row) (study_run _ _ _ o c.loop-j.j d c.loop-j-test.true) ∙ sym c.run_row.ensures.row)
-    c.loop-j.invariant c.count_run.array_long c.count_run.ensures
+    c.loop-j.invariant c.count_run.array_long (rw c.of-chart.ensures.row at c.count_run.ensures)
 
 pub returns : goal.returns
 returns c =
-    let a = c.args in
-    let s = a.study in
-    holding_end s.n (runs s.words.now) a.reference.now c.loop-j.j c.loop-j.holders (omega (arith, study_length _ _ _ (held_study s)))
-    c.loop-j.invariant
+    let s = c.args.study in
+    let q = c.args.reference in
+    rw c.requires at (holding_end q.n (runs s.words.now) q.row.now c.loop-j.j c.loop-j.holders (omega (arith, study_length _ _ _ (held_study s)))
+    c.loop-j.invariant)

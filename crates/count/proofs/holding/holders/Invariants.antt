@@ -5,4 +5,4 @@ use Rattle.count.specs.Holders.{Counting}
 use Rattle.count.proofs.holding.holders.Given as goal
 
 abbrev pub invariant-loop-j : goal.invariant-loop-j
-invariant-loop-j l = Counting (holds l.n) l.n (runs l.study.words.now) l.reference l.j l.holders
+invariant-loop-j l = Counting (holds l.reference.n) l.reference.n (runs l.study.words.now) l.reference.row.now l.j l.holders

@@ -1,5 +1,6 @@
 -- `count::Held::run_row` is the row of slot j, and standard. Assumes nothing.
 use native.Mathlib.Omega.{arith}
+use Rattle.trees.proofs.StandardLaws.{standard_from}
 use Rattle.count.specs.StudyLaws.{held_study, study_most, study_few, study_room, study_standard}
 use Rattle.count.proofs.held.Held.run_row.Goals as goal
 
@@ -13,6 +14,9 @@ slot_row-requires c =
     let s = held_study c.args.self in
     (study_most _ _ _ s, rw c.slot_start.ensures (study_room _ _ _ s c.args.j c.requires))
 
-pub returns-clause-standard : goal.returns-clause-standard
-returns-clause-standard c =
-    rw (c.slot_row.ensures, c.slot_start.ensures) (study_standard _ _ _ (held_study c.args.self) c.args.j c.requires)
+pub invariant_of-result : goal.invariant_of-result
+invariant_of-result c =
+    record {
+      standard = rw (c.slot_row.ensures, c.slot_start.ensures)
+          (standard_from _ _ (study_standard _ _ _ (held_study c.args.self) c.args.j c.requires));
+    }
