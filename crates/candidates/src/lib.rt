@@ -25,10 +25,7 @@ fn take_in(study: Held, i: usize, row: &mut [u16], counter: &mut Table, spare: &
     ensures { Tied study.entry.n (tally_at study.entry.n (runs study.entry.words.now) (i + 1)) row.new counter.new }
 {
     let mut fresh: Table = [0; TABLE];
-    let tree = StandardRow {
-        n: study.n,
-        row,
-    };
+    let tree = StandardRow { n: study.n, row };
     round(study.run_row(i), tree, counter, &mut fresh, spare);
     row.copy_from_slice(spare);
     *counter = fresh;

@@ -12,7 +12,7 @@ use Rattle.trees.specs.Mates.{no_mate, mate_of}
 use Rattle.trees.specs.Merging.{flagged}
 use Rattle.trees.specs.Reporting.{Run, worth, support, total}
 use Rattle.trees.specs.Majority.{is_shown, majority}
-use Rattle.trees.proofs.ListLaws.{length_zeros, get_or_zeros, weigh_append, weigh_mono}
+use Rattle.trees.proofs.ListLaws.{get_or_zeros, weigh_append, weigh_mono}
 use Rattle.trees.proofs.RowLaws.{inner_two}
 use Rattle.trees.proofs.MateLaws.{mate_holds}
 use Rattle.trees.proofs.ReportingLaws.{total_length}
@@ -53,15 +53,15 @@ module _ (p : Test) (rs : List Run) (g : Group) where
 module _ (p : Test) (n : ℕ) (rs : List Run) (q : List ℕ) where
   pub counting_start : Counting p n rs q 0 (zeros table_words)
   unfolding weigh
-  counting_start = record { high = omega arith; long = length_zeros table_words; counts = record { is = λ v h k. get_or_zeros table_words v } }
+  counting_start = record { high = omega arith; counts = record { is = λ v h k. get_or_zeros table_words v } }
 
   -- there is room for one more
   pub counting_under : (k j : ℕ) (t : List ℕ) → j < k → Counting p n rs q j t → Under k n (nodes q) t
   counting_under k j t h i = record { lt = λ v a b. omega (arith, i.counts.is v a b, passing_few p rs (group_at n q v) j) }
 
   pub counting_step : (j : ℕ) (d : Run) (r t t' : List ℕ) → j < length rs → (get_or rs j d).row ≡ r → Counting p n rs q j t
-      → length t' ≡ table_words → Tabled (with_run p n q r t) n (nodes q) t' → Counting p n rs q (j + 1) t'
-  counting_step j d r t t' h e i l x = record { high = omega arith; long = l; counts = record { is = λ v a b. step v a b } }
+      → Tabled (with_run p n q r t) n (nodes q) t' → Counting p n rs q (j + 1) t'
+  counting_step j d r t t' h e i x = record { high = omega arith; counts = record { is = λ v a b. step v a b } }
     where
       step : (v : ℕ) → n ≤ v → v < nodes q → get_or t' v 0 ≡ passing_at p n (take (j + 1) rs) q v
       step v a b = let g : Group = group_at n q v in

@@ -1,9 +1,9 @@
 -- How many runs pass a test, such as holding it, with the group of each node of a row; and which nodes are shown.
-use Rattle.std.specs.Prelude.{ℕ, ◌+◌, ◌≤◌, ◌<◌, ◌≡◌, List, Bool, not, cond, eqb, length, get_or, take}
+use Rattle.std.specs.Prelude.{ℕ, ◌+◌, ◌≤◌, ◌<◌, List, Bool, not, cond, eqb, length, get_or, take}
 use Rattle.trees.specs.Lists.{weigh}
 use Rattle.trees.specs.Groups.{Group}
 use Rattle.trees.specs.Rows.{nodes, group_at}
-use Rattle.trees.specs.Tables.{Tabled, Flags, table_words, entry}
+use Rattle.trees.specs.Tables.{Tabled, Flags, entry}
 use Rattle.trees.specs.Mates.{no_mate}
 use Rattle.trees.specs.Reporting.{Run, worth, support}
 use Rattle.trees.specs.Majority.{is_shown}
@@ -34,7 +34,6 @@ pub record Under (k a b : ℕ) (t : List ℕ) : Type 0 where
 -- t counts, for the inner groups of q, those of the first j runs that pass the test
 pub record Counting (p : Test) (n : ℕ) (rs : List Run) (q : List ℕ) (j : ℕ) (t : List ℕ) : Type 0 where
   pub high : j ≤ length rs
-  pub long : length t ≡ table_words
   pub counts : Tabled (passing_at p n (take j rs) q) n (nodes q) t
 
 -- the flags from a to below b, by a table of the numbers of runs: what is shown at threshold t

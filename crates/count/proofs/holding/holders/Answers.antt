@@ -32,7 +32,7 @@ loop-j-preserved c =
     counting_step (holds q.n) q.n (runs s.words.now) q.row.now c.loop-j.j d _ c.loop-j.holders _
     (rw (study_length _ _ _ o) c.loop-j-test.true)
     (ap (λ (run : Run). run.row) (study_run _ _ _ o c.loop-j.j d c.loop-j-test.true) ∙ sym c.run_row.ensures.row)
-    c.loop-j.invariant c.count_run.array_long (rw c.of-chart.ensures.row at c.count_run.ensures)
+    c.loop-j.invariant (rw c.of-chart.ensures.row at c.count_run.ensures)
 
 pub returns : goal.returns
 returns c =
