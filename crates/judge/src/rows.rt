@@ -1,5 +1,7 @@
 // Rows of which it is known what they are, each with its number of samples. Whoever makes one shows that it is so.
 // One generic type for the three was tried: antt finds no proof that a fact which a type parameter brings is a proposition, as a ghost field has to be.
+// Bounds of a lone number or of a row's length stay clauses of who asks for them: as a type each would be unwrapped at every use. The length of a
+// buffer that is written stays one too: a type for it would hold the `&mut`, and a caller's slice would have to be moved into it and out again.
 ghost use Rattle.std.specs.Prelude.{◌≡◌, true};
 ghost use Rattle.trees.specs.Checks.{judged};
 ghost use Rattle.trees.specs.Valid.{is_accepted, standard};

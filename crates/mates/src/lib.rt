@@ -11,7 +11,7 @@ ghost use Rattle.trees.specs.Mates.{mate_of, candidate, candidate_of, fitting, c
 use judge::{FallingRow, StandardRow, nodes};
 use passes::{Ranks, TABLE, Table, least, starts};
 
-// 0 is a sample, and so no inner node.
+// 0 is a sample, and so no inner node. A table is of plain words (fixed memory), and `mate_of` says 0 too: so it has no Option.
 pub const NO_MATE: u16 = 0;
 
 // What is made once of a reference row for many calls of `mates`: ranks, and the starts of intervals.

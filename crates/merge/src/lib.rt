@@ -21,7 +21,8 @@ use judge::{MOST_SAMPLES, ROOT_MARK, StandardRow, nodes, parent};
 use passes::{RANK_STEP, Ranks, TABLE, Table};
 pub use side::Side;
 
-// Whether the first row's node takes the next number, whether the second's does, and the smallest sample of their group.
+// Whether the first row's node takes the next number, whether the second's does, and the smallest sample of their group. Both may
+// take it, so that an enum would have three variants where two flags say it.
 #[derive(Clone, Copy, Debug, PartialEq, Eq)]
 struct Choice {
     first: bool,
@@ -50,7 +51,7 @@ fn choose_next(a: &Side, x: usize, b: &Side, y: usize) -> Choice
 }
 
 // Numbers the kept groups of both sides in their common order, from the number of samples on, with each number's
-// smallest sample, and answers the first number that is left.
+// smallest sample, and answers the first number that is left. Each table goes another way afterwards, so they are no struct.
 #[tactic(auto, using(passes::proofs::StandardRows::standard_nodes))]
 fn lockstep(a: &Side, b: &Side, num_a: &mut Table, num_b: &mut Table, mins: &mut Table) -> usize
     requires { Sided a.now b.now × (num_a.old ≡ blank) × (num_b.old ≡ blank) }

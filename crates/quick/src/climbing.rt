@@ -3,9 +3,9 @@ ghost use Rattle.std.specs.Prelude.{◌≡◌, true, ℕ, ◌<◌};
 ghost use Rattle.trees.specs.Rows.{nodes, ends};
 ghost use Rattle.trees.specs.Checks.{asked, check9};
 ghost use Rattle.judge.specs.Verdicts.{verdict};
-ghost use Rattle.quick.specs.Layout.{LaidOut};
 ghost use Rattle.quick.specs.Marking.{Marked};
 
+use crate::laid::LaidRow;
 use judge::{ROOT_MARK, Reason, Refusal, nodes, parent};
 use passes::TABLE;
 
@@ -13,17 +13,17 @@ use passes::TABLE;
 type Marks = [bool; TABLE];
 
 // Whether the way up from v comes to the root: it does if it comes to a marked node.
-fn reaches(row: &[u16], marks: &Marks, v: usize) -> bool
-    requires { LaidOut row.now × Marked row.now marks.now × (v < nodes row.now) }
-    ensures { result ≡ ends (nodes row.now) row.now v }
+fn reaches(row: LaidRow, marks: &Marks, v: usize) -> bool
+    requires { Marked row.row.now marks.now × (v < nodes row.row.now) }
+    ensures { result ≡ ends (nodes row.entry.row.now) row.entry.row.now v }
 {
     let mut at = v;
-    let m = nodes(row);
+    let m = nodes(row.row);
     for passed in 0..m {
         if marks[at] {
             return true;
         }
-        let p = parent(row, at);
+        let p = parent(row.row, at);
         if p == ROOT_MARK {
             return true;
         }
@@ -33,14 +33,14 @@ fn reaches(row: &[u16], marks: &Marks, v: usize) -> bool
 }
 
 // Marks the nodes that the way up from v passes until it comes to a marked one, where it does come to the root.
-fn mark(row: &[u16], marks: &mut Marks, v: usize)
-    requires { LaidOut row.now × Marked row.now marks.old × (v < nodes row.now) × (ends (nodes row.now) row.now v ≡ true) }
-    ensures { Marked row.now marks.new }
+fn mark(row: LaidRow, marks: &mut Marks, v: usize)
+    requires { Marked row.row.now marks.old × (v < nodes row.row.now) × (ends (nodes row.row.now) row.row.now v ≡ true) }
+    ensures { Marked row.entry.row.now marks.new }
 {
     let mut at = v;
     while !marks[at] {
         marks[at] = true;
-        let p = parent(row, at);
+        let p = parent(row.row, at);
         if p == ROOT_MARK {
             return;
         }
@@ -50,11 +50,11 @@ fn mark(row: &[u16], marks: &mut Marks, v: usize)
 
 // Check 9, with marks. Each node is marked once, and but for its last node a climb that ends passes only nodes that are marked then: so the
 // climbs that end are linear together, and one that does not is the last.
-fn climbing_marked(row: &[u16], marks: &mut Marks) -> Result<(), Refusal>
-    requires { LaidOut row.now × Marked row.now marks.old }
-    ensures { (n : ℕ) → verdict result ≡ asked (check9 n row.now) }
+fn climbing_marked(row: LaidRow, marks: &mut Marks) -> Result<(), Refusal>
+    requires { Marked row.row.now marks.old }
+    ensures { (n : ℕ) → verdict result ≡ asked (check9 n row.entry.row.now) }
 {
-    let m = nodes(row);
+    let m = nodes(row.row);
     for start in 0..m {
         if !reaches(row, marks, start) {
             return Err(Refusal::new(Reason::Lost, start));
@@ -66,9 +66,8 @@ fn climbing_marked(row: &[u16], marks: &mut Marks) -> Result<(), Refusal>
 
 // Check 9: the lowest node whose way up never comes to the root (RULES 7.5).
 // For adding, renumbering and comparing, which have room for a table: linear. Judging uses the form of `judge`.
-pub(crate) fn climbing(row: &[u16]) -> Result<(), Refusal>
-    requires { LaidOut row.now }
-    ensures { (n : ℕ) → verdict result ≡ asked (check9 n row.now) }
+pub(crate) fn climbing(row: LaidRow) -> Result<(), Refusal>
+    ensures { (n : ℕ) → verdict result ≡ asked (check9 n row.entry.row.now) }
 {
     let mut marks: Marks = [false; TABLE];
     climbing_marked(row, &mut marks)

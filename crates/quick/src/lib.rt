@@ -7,11 +7,13 @@ ghost use Rattle.judge.specs.Verdicts.{verdict};
 
 mod branching;
 mod climbing;
+mod laid;
 pub mod tally;
 
 use branching::branching;
 use climbing::climbing;
 use judge::Refusal;
+use laid::LaidRow;
 
 // Checks 5 to 10, of a row of the right length for n: the first that applies is the answer (RULES 7.2).
 // For adding, renumbering and comparing, which have room for tables: linear. Judging has a form of its own, with none.
@@ -20,6 +22,7 @@ pub fn check_row(n: usize, row: &[u16]) -> Result<(), Refusal>
     ensures { verdict result ≡ row_checks n row.now ⊳ accepted }
 {
     judge::check_words(n, row)?;
-    climbing(row)?;
-    branching(n, row)
+    let laid = LaidRow { row };
+    climbing(laid)?;
+    branching(n, laid)
 }

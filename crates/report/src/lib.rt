@@ -118,7 +118,6 @@ pub fn report(
     ensures agreed { agreed.new ≡ (reported words.now p agreed.old support.old).agreed_row }
     ensures support { support.new ≡ (reported words.now p agreed.old support.old).support_row }
 {
-    report_checks(words, p, agreed, support)?;
-    both_rows(words, p, agreed, support);
-    Ok(())
+    study_given(words)?;
+    report_formed(words, p, agreed, support)
 }

@@ -77,7 +77,7 @@ impl Header {
     }
 }
 
-// The number of samples of a study.
+// The number of samples of a study. One function for this word and the next would take the word's place, and its name would say less.
 pub fn samples(words: &[u16]) -> usize
     requires { header_words ≤ length words.now }
     ensures { result ≡ samples words.now }

@@ -24,7 +24,8 @@ pub fn slot_row(words: &[u16], n: usize, p: usize) -> &[u16]
     &words[from..from + 2 * n]
 }
 
-// The slot in which an identifier stands in a well-formed study, or, as an error, the slot before which it would.
+// The slot in which an identifier stands in a well-formed study, or, as an error, the slot before which it would. Identifiers stand a
+// slot apart, and so in no slice that `binary_search` could take.
 #[tactic(auto, using(runs::proofs::SlotLaws::formed_long))]
 pub fn find_slot(words: &[u16], id: u16) -> Result<usize, usize>
     requires { Formed words.now }

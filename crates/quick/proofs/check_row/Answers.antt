@@ -7,16 +7,13 @@ use Rattle.quick.proofs.check_row.Goals as goal
 pub returns-in_err-check_words : goal.returns-in_err-check_words
 returns-in_err-check_words c = words_stop _ _ _ c.in_err-check_words.field-0.0 c.from_residual.ensures.1 c.in_err-check_words.ensures
 
-pub climbing-requires : goal.climbing-requires
-climbing-requires c = laid_out _ _ c.in_ok-check_words.ensures c.requires.0 c.requires.1 c.requires.2
+pub invariant_of-laid : goal.invariant_of-laid
+invariant_of-laid c = record { laid = laid_out _ _ c.in_ok-check_words.ensures c.requires.0 c.requires.1 c.requires.2 }
 
 pub returns-in_err-climbing : goal.returns-in_err-climbing
 returns-in_err-climbing c =
     climbing_stop c.args.n _ c.in_ok-check_words.ensures _ c.in_err-climbing.field-0.0 c.from_residual-in_err-climbing.ensures.1
     (c.in_err-climbing.ensures c.args.n)
-
-pub branching-requires : goal.branching-requires
-branching-requires c = laid_out _ _ c.in_ok-check_words.ensures c.requires.0 c.requires.1 c.requires.2
 
 pub returns : goal.returns
 returns c = c.branching.ensures ∙ branching_last c.args.n _ c.in_ok-check_words.ensures (c.in_ok-climbing.ensures c.args.n)

@@ -4,4 +4,4 @@ use Rattle.quick.proofs.branching.branching.Goals as goal
 
 pub count_children-requires : goal.count_children-requires
 count_children-requires c =
-    (c.requires, refl)
+    refl

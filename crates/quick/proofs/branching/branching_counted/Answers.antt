@@ -12,13 +12,13 @@ loop-v-init c = scan_start refl
 pub returns-then-from-lt-FEWEST_CHILDREN : goal.returns-then-from-lt-FEWEST_CHILDREN
 returns-then-from-lt-FEWEST_CHILDREN c =
     let l = c.loop-v in
-    let d = c.requires.1 in
+    let d = c.requires in
     rw c.new.ensures (scan_hit l.invariant 10 (omega arith) (rw (c.from.ensures ∙ d.is l.v zero-le (omega arith)) at (lt-ltb _ _ c.if-from-lt-FEWEST_CHILDREN.true)))
 
 pub loop-v-preserved : goal.loop-v-preserved
 loop-v-preserved c =
     let l = c.loop-v in
-    let d = c.requires.1 in
+    let d = c.requires in
     scan_pass l.invariant (omega arith) (rw (c.from.ensures ∙ d.is l.v zero-le (omega arith)) at (le-ltb _ _ c.if-from-lt-FEWEST_CHILDREN.false))
 
 pub returns : goal.returns

@@ -6,4 +6,4 @@ use Rattle.trees.proofs.ScanLaws.{ScanLeft}
 use Rattle.quick.proofs.branching.branching_counted.Given as goal
 
 abbrev pub invariant-loop-v : goal.invariant-loop-v
-invariant-loop-v l = ScanLeft (λ u. ltb (children l.row u) fewest_children) l.n (nodes l.row) l.v
+invariant-loop-v l = ScanLeft (λ u. ltb (children l.row.row.now u) fewest_children) l.n (nodes l.row.row.now) l.v

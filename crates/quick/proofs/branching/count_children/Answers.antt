@@ -5,8 +5,8 @@ use Rattle.quick.proofs.branching.count_children.Goals as goal
 
 pub tally-requires : goal.tally-requires
 tally-requires c =
-    let pre = c.requires in
-    (omega (arith, pre.0.words), omega (arith, pre.0.fits), pre.1)
+    let o = c.args.row.laid in
+    (omega (arith, o.words), omega (arith, o.fits), c.requires)
 
 pub returns : goal.returns
 returns c = tabled_children _ _ _ c.nodes.ensures c.tally.ensures

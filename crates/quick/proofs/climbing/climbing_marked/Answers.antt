@@ -16,8 +16,7 @@ returns-then-not-reaches c n =
 
 pub mark-requires : goal.mark-requires
 mark-requires c =
-    let pre = c.requires in
-    (pre.0, c.loop-start.invariant.marked, omega arith, sym c.reaches.ensures ∙ c.if-not-reaches.false)
+    (c.loop-start.invariant.marked, omega arith, sym c.reaches.ensures ∙ c.if-not-reaches.false)
 
 pub loop-start-preserved : goal.loop-start-preserved
 loop-start-preserved c =

@@ -3,4 +3,4 @@ use Rattle.quick.specs.Marking.{ClimbedFrom}
 use Rattle.quick.proofs.climbing.climbing_marked.Given as goal
 
 abbrev pub invariant-loop-start : goal.invariant-loop-start
-invariant-loop-start l = ClimbedFrom l.row l.start l.marks
+invariant-loop-start l = ClimbedFrom l.row.row.now l.start l.marks

@@ -9,12 +9,12 @@ returns-then-p-eq-ROOT_MARK c = let k = c.loop-marks.invariant in marked_more _ 
 pub loop-marks-smaller : goal.loop-marks-smaller
 loop-marks-smaller c =
     let k = c.loop-marks.invariant in
-    unmarked_fewer _ _ k.marked _ c.requires.0.fits k.node c.loop-marks-test.true
+    unmarked_fewer _ _ k.marked _ c.args.row.laid.fits k.node c.loop-marks-test.true
 
 pub loop-marks-preserved : goal.loop-marks-preserved
 loop-marks-preserved c =
     let p = c.parent-p.ensures in
-    rw p (marked_up _ _ _ c.requires.0 c.loop-marks.invariant (rw p at (ne_eqb _ _ c.if-p-eq-ROOT_MARK.false)))
+    rw p (marked_up _ _ _ c.args.row.laid c.loop-marks.invariant (rw p at (ne_eqb _ _ c.if-p-eq-ROOT_MARK.false)))
 
 pub returns : goal.returns
 returns c = c.loop-marks.invariant.marked

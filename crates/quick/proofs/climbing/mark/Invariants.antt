@@ -3,7 +3,7 @@ use Rattle.quick.specs.Marking.{MarkedTo, unmarked}
 use Rattle.quick.proofs.climbing.mark.Given as goal
 
 abbrev pub invariant-loop-marks : goal.invariant-loop-marks
-invariant-loop-marks l = MarkedTo l.row l.at l.marks
+invariant-loop-marks l = MarkedTo l.row.row.now l.at l.marks
 
 abbrev pub decreases-loop-marks : goal.decreases-loop-marks
-decreases-loop-marks l = unmarked l.row l.marks
+decreases-loop-marks l = unmarked l.row.row.now l.marks

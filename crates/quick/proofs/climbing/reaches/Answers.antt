@@ -10,11 +10,11 @@ use Rattle.quick.proofs.climbing.reaches.Goals as goal
 
 pub loop-passed-init : goal.loop-passed-init
 loop-passed-init c =
-    let all : c.nodes-m.result - 0 ≡ nodes c.args.row.now = omega (arith, c.nodes-m.ensures) in
+    let all : c.nodes-m.result - 0 ≡ nodes c.args.row.row.now = omega (arith, c.nodes-m.ensures) in
     record { node = search rules; within = rw all; ever = refl }
 
 pub returns-then-marks-at : goal.returns-then-marks-at
-returns-then-marks-at c = climbed_known _ _ _ _ c.loop-passed.invariant _ c.requires.1 c.if-marks-at.true
+returns-then-marks-at c = climbed_known _ _ _ _ c.loop-passed.invariant _ c.requires.0 c.if-marks-at.true
 
 pub returns-then-p-eq-ROOT_MARK : goal.returns-then-p-eq-ROOT_MARK
 returns-then-p-eq-ROOT_MARK c =
@@ -27,7 +27,7 @@ loop-passed-preserved c =
     let l = c.loop-passed in
     let some : 0 < c.nodes-m.result - l.passed = omega arith in
     let less : c.nodes-m.result - (l.passed + 1) ≡ c.nodes-m.result - l.passed - 1 = omega arith in
-    rw (p, less) (climbed_up _ _ _ _ l.invariant c.requires.0 some (rw p at (ne_eqb _ _ c.if-p-eq-ROOT_MARK.false)))
+    rw (p, less) (climbed_up _ _ _ _ l.invariant c.args.row.laid some (rw p at (ne_eqb _ _ c.if-p-eq-ROOT_MARK.false)))
 
 pub returns : goal.returns
 returns c =

@@ -4,4 +4,4 @@ use Rattle.quick.specs.Marking.{Climbed}
 use Rattle.quick.proofs.climbing.reaches.Given as goal
 
 abbrev pub invariant-loop-passed : goal.invariant-loop-passed
-invariant-loop-passed l = Climbed l.row l.v (l.m - l.passed) l.at
+invariant-loop-passed l = Climbed l.row.row.now l.v (l.m - l.passed) l.at
