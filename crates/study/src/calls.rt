@@ -1,4 +1,5 @@
-// Opening, adding and withdrawing. The inner calls ask for a well-formed study and do not look it over again.
+// Opening, adding and withdrawing. The inner calls ask for a well-formed study and do not look it over again. That stays a clause: a type for
+// it would hold the `&mut`, and while slots move the words are no study.
 ghost use Rattle.std.specs.Prelude.{◌≡◌};
 ghost use Rattle.runs.specs.Words.{samples};
 ghost use Rattle.runs.specs.Formed.{Formed};
