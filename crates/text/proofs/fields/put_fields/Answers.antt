@@ -1,8 +1,6 @@
 -- `text::fields::put_fields` puts numbers: those that are left decide. Assumes nothing.
-use Prim.Native.Nat.{◌≤◌}
 use native.Mathlib.Omega.{arith}
-use lib.ListN.{length, get_or, drop_of_length-le}
-use Rattle.ascii.specs.Decimal.{decimal}
+use lib.ListN.{get_or, drop_of_length-le}
 use Rattle.ascii.specs.DecimalLaws.{decimal_short}
 use Rattle.text.proofs.Laws.{fields_next, fields_end}
 use Rattle.text.proofs.fields.put_fields.Goals as goal
