@@ -45,7 +45,12 @@ pub fn withdraw(words: &mut [u16], id: u16) -> Result<(), Refusal>
 
 // Reporting (RULES 5) at threshold p, 0 for the default: the agreed row and the support row of the runs in force; or a refusal that leaves both as
 // they were. The study is only read.
-pub fn report(words: &[u16], p: usize, agreed: &mut [u16], support: &mut [u16]) -> Result<(), Refusal>
+pub fn report(
+    words: &[u16],
+    p: usize,
+    agreed: &mut [u16],
+    support: &mut [u16],
+) -> Result<(), Refusal>
     ensures answer { verdict result ≡ (reported words.now p agreed.old support.old).verdict }
     ensures agreed { agreed.new ≡ (reported words.now p agreed.old support.old).agreed_row }
     ensures support { support.new ≡ (reported words.now p agreed.old support.old).support_row }
@@ -93,7 +98,12 @@ pub fn write_newick(n: usize, row: &[u16], text: &mut [u8]) -> Result<usize, Ref
 }
 
 // The same with the words of a support row behind the closing brackets of inner nodes (RULES 14.11).
-pub fn write_newick_supports(n: usize, row: &[u16], support: &[u16], text: &mut [u8]) -> Result<usize, Refusal>
+pub fn write_newick_supports(
+    n: usize,
+    row: &[u16],
+    support: &[u16],
+    text: &mut [u8],
+) -> Result<usize, Refusal>
     ensures answer { written_verdict result ≡ (writing n row.now (with_words support.now) text.old).verdict }
     ensures bytes { text.new ≡ (writing n row.now (with_words support.now) text.old).words }
 {

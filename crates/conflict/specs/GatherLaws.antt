@@ -1,7 +1,7 @@
 -- The walk up to the first node above two, the pass that joins what each node of a reference row has got, and what its tables tell.
 -- Assumes nothing.
-use Rattle.std.specs.Prelude.{ℕ, suc, ◌+◌, ◌≤◌, ◌<◌, ◌≡◌, ◌⊎◌, List, Bool, true, not, eqb, length, set}
-use Rattle.std.proofs.Common.{zero-le, sym, ap, ◌∙◌, subst, inl, inr, ⊎_elim, true≢false, arith, get_or-set_same, get_or-set_other, eqb-true}
+use Rattle.std.specs.Prelude.{ℕ, suc, ◌+◌, ◌-◌, ◌≤◌, ◌<◌, ◌≡◌, ◌⊎◌, List, Bool, true, not, eqb, length, set}
+use Rattle.std.proofs.Common.{zero-le, sym, ap, ◌∙◌, subst, inl, inr, ⊎_elim, true≢false, arith, length-set, get_or-set_same, get_or-set_other, eqb-true}
 use Rattle.std.proofs.lemmas.Bool.{eqb-false}
 use Rattle.trees.specs.Groups.{Group, has, single, lowest}
 use Rattle.trees.specs.Rows.{nodes, parent, group_at, holds}
@@ -30,8 +30,11 @@ use Rattle.conflict.specs.Gathering.{nothing, reach_at, Begins, Seeding, Handed,
 
 -- ---- the table
 
--- what is stored is there, and the others stay
+-- what is stored is there, the others stay, and the table is as long as it was
 module _ (t : List Reach) (v : ℕ) (x : Reach) where
+  stored_long : length t ≡ table_words → length (set t v x) ≡ table_words
+  stored_long e = length-set t v x ∙ e
+
   stored_here : v < length t → x ≡ reach_at (set t v x) v
   stored_here h = sym (get_or-set_same t v x nothing h)
 
@@ -240,6 +243,11 @@ gauged_reached n q r start first last t tf tl g = record {
 -- flags of a function are those of one with the same values
 flags_same : (f g : ℕ → Bool) (a b : ℕ) (t : List Bool) → ((v : ℕ) → a ≤ v → v < b → f v ≡ g v) → Flags f a b t → Flags g a b t
 flags_same f g a b t e i = record { is = λ v h k. i.is v h k ∙ e v h k }
+
+-- the nodes reached are words of a table
+pub reached_low : (n : ℕ) (q r start : List ℕ) (t : List Reach) → Standard n r → Reached n q r (entry start) t
+    → (h : ℕ) → h < nodes q → (reach_at t h).node ≤ table_words - 1
+reached_low n q r start t rs g h k = omega (arith, (g.joined h k).spans.high, few n r (standard_falls n r rs))
 
 module _ (n : ℕ) (q r : List ℕ) (qs : Standard n q) (rs : Standard n r) (size start : List ℕ) (t : List Reach)
     (sized : Tabled (size_at n q) 0 (nodes q) size) (laid : Starts n q (entry start)) (g : Reached n q r (entry start) t)

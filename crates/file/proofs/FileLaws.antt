@@ -1,6 +1,6 @@
 -- The bytes of a file and its slots, without loss; what a good file is; a text at the front, byte by byte. Assumes nothing.
-use Rattle.std.specs.Prelude.{ℕ, ◌+◌, ◌*◌, ◌^◌, ◌≤◌, ◌<◌, ◌≡◌, refl, ◌↔◌, List, [], ◌∷◌, Bool, true, false, ◌&&◌, ◌||◌, not, cond, eqb, length, get_or, None}
-use Rattle.std.proofs.Common.{sym, ap, ◌∙◌, mul-le-mul, mul-le-mul_right, le-mul_of_pos_right, add-mul, zero-add, arith, eq-eqb, eqb-true}
+use Rattle.std.specs.Prelude.{ℕ, ◌+◌, ◌*◌, ◌^◌, ◌≤◌, ◌<◌, ◌≡◌, refl, ◌↔◌, List, [], ◌∷◌, Bool, true, false, ◌&&◌, ◌||◌, not, cond, eqb, length, get_or, drop, suc, None}
+use Rattle.std.proofs.Common.{sym, ap, ◌∙◌, mul-le-mul, mul-le-mul_right, le-mul_of_pos_right, add-mul, zero-add, arith, eq-eqb, ne_eqb, eqb-true, drop-cons}
 use Rattle.std.specs.List.{starts_with}
 use Rattle.std.proofs.lemmas.Bool.{not-false}
 use Rattle.std.proofs.lemmas.Option.{same_Some}
@@ -58,6 +58,20 @@ slot_word bytes n j i h = get_d_tabulate (row_words n) (λ t. word_at bytes (fil
 -- ---- a text at the front
 
 -- what `starts_with` answers
+pub begins_pass : (text bytes : List ℕ) (i : ℕ) → i < length text → i < length bytes → get_or text i 0 ≡ get_or bytes i 0
+    → begins (drop i text) (drop i bytes) ≡ begins (drop (suc i) text) (drop (suc i) bytes)
+unfolding begins
+begins_pass text bytes i h k e = rw (drop-cons text i 0 h, drop-cons bytes i 0 k, eq-eqb _ _ e)
+
+pub begins_stop : (text bytes : List ℕ) (i : ℕ) → i < length text → i < length bytes → (get_or text i 0 ≡ get_or bytes i 0 → ⊥)
+    → begins (drop i text) (drop i bytes) ≡ false
+unfolding begins
+begins_stop text bytes i h k e = rw (drop-cons text i 0 h, drop-cons bytes i 0 k, ne_eqb _ _ e)
+
+pub begins_none : (bytes : List ℕ) → begins [] bytes ≡ true
+unfolding begins
+begins_none bytes = refl
+
 pub begins_is : (text bytes : List ℕ) → starts_with eqb bytes text ≡ begins text bytes
 unfolding begins
 begins_is [] bytes = refl

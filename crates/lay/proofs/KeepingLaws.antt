@@ -1,5 +1,5 @@
 -- What has been laid, step by step: behind an opening bracket or a comma, after a subtree, and at the closing bracket. Assumes nothing.
-use Rattle.std.specs.Prelude.{ℕ, zero, suc, ◌+◌, ◌≤◌, ◌<◌, ◌≡◌, refl, ◌⊎◌, List, [], ◌∷◌, ◌++◌, Bool, true, false, set}
+use Rattle.std.specs.Prelude.{ℕ, zero, suc, ◌+◌, ◌≤◌, ◌<◌, ◌≡◌, refl, ◌⊎◌, List, [], ◌∷◌, ◌++◌, Bool, true, false, length, set}
 use Rattle.std.proofs.Common.{sym, ◌∙◌, inl, inr, ⊎_elim, add-one, arith, eqb-true}
 use Rattle.std.proofs.Math.Path.{ap}
 use Rattle.std.proofs.Math.Dec.{eqb}
@@ -14,7 +14,8 @@ use Rattle.newick.specs.Tree.Held.{nothing, some}
 use Rattle.newick.specs.Meaning.{samples, samples_in, times}
 use Rattle.newick.specs.Grammar.{sample_bound}
 use Rattle.lay.specs.Laying.{Link, link, sets, Braid, node_of, then_by, grow, spread, tally, least}
-use Rattle.lay.proofs.TallyLaws.{sets_append, tally_append, least_append}
+use Rattle.lay.proofs.TallyLaws.{sets_append, tally_append, least_append, length_tally}
+use Rattle.lay.proofs.LaidRow.{length_links}
 use Rattle.lay.specs.declared.keep.Kept.{Kept}
 use Rattle.lay.specs.declared.tables.Standing.{Standing}
 use Rattle.lay.specs.Keeping.{Lays, Takes, Parts, Shuts, spread_held, samples_held, Along}
@@ -148,3 +149,21 @@ lays_leaf x kept marks kept' marks' row T h k = record {
   below =
       λ y i. ⊎_elim (λ e. omega (arith, eqb-true y x e, h)) (λ e. absurd (omega (arith, rw e at i))) (decide (eqb y x));
 }
+
+-- ---- the sizes
+
+pub lays_lent : (t : Tree) (c : Kept) (row : List ℕ) (marks : List Standing) (g : Kept) (row' : List ℕ) (marks' : List Standing)
+    → length row ≡ table_words → length marks ≡ most_samples → Lays t c row marks g row' marks'
+    → (length row' ≡ table_words) × (length marks' ≡ most_samples)
+lays_lent t c row marks g row' marks' e f L = (
+  ap length L.links ∙ length_links (grow t c.next).links row ∙ e,
+  ap length L.stands ∙ length_tally (samples t) marks ∙ f,
+)
+
+pub along_lent : (h : Held) (c : Kept) (row₀ : List ℕ) (marks₀ : List Standing) (v : ℕ) (d : Kept) (row : List ℕ) (marks : List Standing)
+    → length row₀ ≡ table_words → length marks₀ ≡ most_samples → Along h c row₀ marks₀ v d row marks
+    → (length row ≡ table_words) × (length marks ≡ most_samples)
+along_lent h c row₀ marks₀ v d row marks e f A = (
+  ap length A.links ∙ length_links (spread_held h c.next).links row₀ ∙ e,
+  ap length A.stands ∙ length_tally (samples_held h) marks₀ ∙ f,
+)

@@ -1,5 +1,6 @@
 -- What has been counted, found and linked over one list and then over another. Assumes nothing.
-use Rattle.std.specs.Prelude.{ℕ, suc, ◌≡◌, refl, List, [], ◌∷◌, ◌++◌, cond, ltb, get_or, set, Option}
+use Rattle.std.specs.Prelude.{ℕ, suc, ◌≡◌, refl, List, [], ◌∷◌, ◌++◌, cond, ltb, get_or, set, length, Option}
+use Rattle.std.proofs.Common.{◌∙◌, length-set}
 use Rattle.lay.specs.declared.tables.Standing.{Standing}
 use Rattle.lay.specs.declared.tables.Standing.TheVariants.{Never}
 use Rattle.lay.specs.Laying.{Link, sets, once_more, tally, lower, least}
@@ -18,3 +19,9 @@ pub least_append : (n : ℕ) (xs ys : List ℕ) (b : Option ℕ) → least n (xs
 unfolding least
 least_append n [] ys b = refl
 least_append n (x ∷ xs) ys b = least_append n xs ys (cond (ltb x n) b (lower b x))
+
+pub length_tally : (xs : List ℕ) (marks : List Standing) → length (tally xs marks) ≡ length marks
+unfolding tally
+length_tally [] marks = refl
+length_tally (x ∷ xs) marks =
+    length_tally xs (set marks x (once_more (get_or marks x Never))) ∙ length-set marks x (once_more (get_or marks x Never))

@@ -1,19 +1,21 @@
 -- What a reading has kept decides check 18, and what it has laid is the row. Assumes nothing.
 use Prim.Native.Nat.{ℕ, zero, suc, ◌+◌, ◌≤◌, ◌<◌}
-use Rattle.std.specs.Prelude.{◌≡◌, refl, Option, Result, Ok, Err, MatchResult}
+use Rattle.std.specs.Prelude.{◌≡◌, refl, not, eqb, length, Option, None, Some, Result, Ok, Err, MatchResult}
 use Rattle.std.proofs.Math.Path.{sym, ap}
-use Rattle.std.proofs.Common.{subst, ◌∙◌, arith, eq-eqb, ne_eqb}
+use Rattle.std.proofs.Common.{subst, ◌∙◌, arith, lt-ltb, le-ltb, eq-eqb, ne_eqb, eqb-true}
 use mathlib.Core.List.{List, [], ◌∷◌}
 use Rattle.std.proofs.Math.Bool.{cond}
 use Rattle.std.proofs.Math.Numerals.{add-one}
 use Rattle.std.proofs.Math.ListN.{get_or, set, take}
+use Rattle.std.proofs.lemmas.Bool.{not-false}
 use Rattle.trees.specs.Lists.{Place, nowhere, at, range, zeros, first}
 use Rattle.trees.proofs.ListLaws.{first_end, first_hit}
 use Rattle.trees.specs.Rows.{root_mark}
-use Rattle.trees.specs.Checks.{Verdict, accepted, Check, ◌⊳◌, asked, fewest_samples, most_samples, row_words, check1, check3}
+use Rattle.trees.specs.Checks.{Verdict, accepted, refused, Check, ◌⊳◌, asked, fewest_samples, most_samples, row_words, check1, check3, outside}
 use Rattle.trees.specs.Tables.{table_words}
 use Rattle.trees.proofs.ScanLaws.{ScanLeft, scan_pass}
-use Rattle.trees.proofs.ChainLaws.{chain_stop, chain_go, chain_end, chain_passed}
+use Rattle.trees.proofs.ChainLaws.{chain_stop, chain_go, chain_end, chain_passed, asked_passes, line_passes}
+use Rattle.trees.proofs.CheckLaws.{outside_not}
 use Rattle.trees.proofs.OutcomeLaws.{outcome_refused}
 use Rattle.trees.specs.Valid.{Valid, is_accepted}
 use Rattle.trees.specs.Numbering.{renumbered}
@@ -34,7 +36,7 @@ use Rattle.lay.proofs.LaidRow.{laid_valid}
 use Rattle.lay.specs.Faults.{or_at, place_of, due, told_by, bad_mark, mark_check}
 use Rattle.lay.proofs.FaultLaws.{place18, laid_row_in}
 use Rattle.newick.proofs.FaultLaws.{stands_exactly}
-use Rattle.reader.specs.Steps.{Told, Texts}
+use Rattle.reader.specs.Steps.{ReadyAt, Told, Texts}
 use Rattle.reader.specs.Results.{Unread, checks_of, tree_of, Lies, left_in}
 
 -- ---- the first words of a row
@@ -56,6 +58,12 @@ take_zeros (suc w) zero h = absurd (omega arith)
 take_zeros (suc w) (suc m) h = ap (λ (l : List ℕ). 0 ∷ l) (take_zeros w m (omega arith))
 
 -- ---- the checks, as the code takes them
+
+pub due_once : (n x : ℕ) → x < n → 1 ≡ due n x
+due_once n x h = rw (lt-ltb x n h) refl
+
+pub due_never : (n x : ℕ) → n ≤ x → ◌≡◌ {A = ℕ} 0 (due n x)
+due_never n x h = rw (le-ltb x n h) refl
 
 told_one : (a b : Standing) → told_by a ≡ told_by b → a ≡ b
 told_one Never Never e = refl
@@ -80,15 +88,37 @@ module _ (n : ℕ) (marks : List Standing) (b v : ℕ) (s : ScanLeft (bad_mark n
     pub bad_not : get_or marks v Never ≡ r → ScanLeft (bad_mark n marks) 0 b (v + 1)
     bad_not f = scan_pass s h (rw (eq-eqb (told_by (get_or marks v Never)) (due n v) (ap told_by f ∙ e)) refl)
 
+pub place_hit : (k m : ℕ) → refused k m ≡ asked (record { number = k; fault = place_of (Some m) })
+place_hit k m = refl
+
+pub place_miss : (k : ℕ) → accepted ≡ asked (record { number = k; fault = place_of None })
+place_miss k = refl
+
+pub or_hit : (k x : ℕ) (p q : Place) → place_of (Some x) ≡ p → refused k x ≡ asked (record { number = k; fault = or_at p q })
+or_hit k x p q e = subst (λ (z : Place). refused k x ≡ asked (record { number = k; fault = or_at z q })) e refl
+
+pub or_miss : (k : ℕ) (p q : Place) (v : Verdict) → place_of None ≡ p → v ≡ asked (record { number = k; fault = q })
+    → v ≡ asked (record { number = k; fault = or_at p q })
+or_miss k p q v e f = subst (λ (z : Place). v ≡ asked (record { number = k; fault = or_at z q })) e f
+
 -- ---- a text that has been read
+
+pub unread_ready : (n : ℕ) (l : List ℕ) (kept : Kept) (row : List ℕ) (marks : List Standing) → 1 ≤ n → n ≤ most_samples
+    → Unread n kept row marks → ReadyAt l 0 kept
+unread_ready n l kept row marks h k F =
+    let e : kept.next ≡ n = ap (λ (c : Kept). c.next) F.numbers in
+    record { within = omega arith; low = omega (arith, e); most = omega (arith, e) }
+
+pub lies_form : (l : List ℕ) (n q : ℕ) (row : List ℕ) → parsed l ≡ stops q → Lies l n (Err (record { reason = Form; place = q })) row
+unfolding text_checks
+lies_form l n q row e = rw e (chain_stop (check17 (stops q)) _ accepted 17 q refl)
 
 -- what is found is a tree, or a stop that is refused
 module _ (l : List ℕ) (n : ℕ) (kept : Kept) (row : List ℕ) (marks : List Standing) (kept₁ : Kept) (row₁ : List ℕ) (marks₁ : List Standing) where
-  pub lies_form : (r : Result ℕ Stop) (x : Refusal) (Q : Stop → Type 0) → Texts l kept row marks r kept₁ row₁ marks₁
+  pub lies_stopped : (r : Result ℕ Stop) (x : Refusal) (Q : Stop → Type 0) → Texts l kept row marks r kept₁ row₁ marks₁
       → MatchResult r (λ (e : ℕ). Err x ≡ Ok e) Q → ((q : Stop) → Q q → x ≡ record { reason = Form; place = q.at }) → Lies l n (Err x) row₁
-  unfolding text_checks
-  lies_form (Ok e) x Q T m g = cc
-  lies_form (Err q) x Q T m g = rw (T, g q m) (chain_stop (check17 (stops q.at)) _ accepted 17 q.at refl)
+  lies_stopped (Ok e) x Q T m g = cc
+  lies_stopped (Err q) x Q T m g = rw (g q m) (lies_form l n q.at row₁ T)
 
   pub told : (r : Result ℕ Stop) (P : ℕ → Type 0) → Texts l kept row marks r kept₁ row₁ marks₁ → MatchResult r P (λ (q : Stop). ⊥)
       → Told l kept row marks kept₁ row₁ marks₁
@@ -145,6 +175,10 @@ module _ (l : List ℕ) (n : ℕ) (kept : Kept) (row : List ℕ) (marks : List S
 
 -- ---- the answer, and what is left in `out`
 
+pub read_refused : (l : List ℕ) (n : ℕ) (x : Refusal) (row out : List ℕ) → Lies l n (Err x) row
+    → (verdict (Err x) ≡ checks_of n l ⊳ accepted) × (out ≡ left_in n l out)
+read_refused l n x row out e = (sym e, rw e refl)
+
 module _ (l : List ℕ) (n : ℕ) (row : List ℕ) (h : fewest_samples ≤ n) (k : n ≤ most_samples) (L : Lies l n (Ok tt) row) where
   passed18 : (check18 n (tree_of l)).fault ≡ nowhere
   unfolding text_checks
@@ -179,6 +213,10 @@ module _ (n : ℕ) (l out : List ℕ) where
   read_1 x e = refused_by x (chain_stop (check1 n) (check3 n out ∷ rest) accepted (number_of x.reason) x.place (sym e))
 
   module _ (a : accepted ≡ asked (check1 n)) where
+    pub samples-in : (fewest_samples ≤ n) × (n ≤ most_samples)
+    samples-in =
+        outside_not fewest_samples most_samples n (line_passes 1 (outside fewest_samples most_samples n) (asked_passes (check1 n) (sym a)))
+
     pub read_3 : (x : Refusal) → verdict (Err x) ≡ asked (check3 n out) → (verdict (Err x) ≡ (reading n l out).verdict) × (out ≡ (reading n l out).words)
     unfolding read_checks
     read_3 x e =
@@ -186,6 +224,11 @@ module _ (n : ℕ) (l out : List ℕ) where
         ∙ chain_stop (check3 n out) rest accepted (number_of x.reason) x.place (sym e))
 
     module _ (b : accepted ≡ asked (check3 n out)) where
+      pub words_in : length out ≡ row_words n
+      words_in = eqb-true (length out) (row_words n)
+          (not-false (eqb (length out) (row_words n))
+          (line_passes 3 (not (eqb (length out) (row_words n))) (asked_passes (check3 n out) (sym b))))
+
       pub read_rest : (v : Verdict) (out' : List ℕ) → v ≡ checks_of n l ⊳ accepted → out' ≡ left_in n l out
           → (v ≡ (reading n l out).verdict) × (out' ≡ (reading n l out).words)
       unfolding reading read_checks

@@ -1,6 +1,6 @@
 -- The steps of reading a text come to what the text is: a tree, or a place where it stops being of the form. Assumes nothing.
 use Rattle.std.specs.Prelude.{ℕ, ◌+◌, ◌≤◌, ◌<◌, ◌≡◌, ◌⊎◌, true, false, List, eqb, get_or, Result, Ok, Err}
-use Rattle.std.proofs.Common.{arith, sym, subst, ◌∙◌, inl, inr, eqb-true}
+use Rattle.std.proofs.Common.{arith, sym, ap, subst, ◌∙◌, inl, inr, eqb-true, eq-eqb, ne_eqb}
 use Rattle.std.proofs.Math.Path.{refl}
 use Rattle.std.proofs.Math.ListN.{length}
 use Rattle.std.proofs.lemmas.Bool.{eqb-false}
@@ -21,7 +21,33 @@ use Rattle.scan.specs.StateLaws.{clash, blanks_on}
 use Rattle.lay.specs.declared.keep.Kept.{Kept}
 use Rattle.lay.specs.declared.tables.Standing.{Standing}
 use Rattle.lay.specs.Keeping.{Whole, LaidTo, Laid}
-use Rattle.reader.specs.Steps.{semicolon_from, blanks_from, end_from, WholeOf, Texts}
+use Rattle.reader.specs.declared.held.Reader.{Reader}
+use Rattle.reader.specs.Steps.{semicolon_from, blanks_from, end_from, Goes, Reads, WholeOf, Texts}
+
+-- ---- the steps
+
+module _ (l : List ℕ) (p : Result ℕ Stop) (at : ℕ) (e : p ≡ Ok at) where
+  pub semicolon_yes : (b : ℕ) → b ≡ get_or l at 0 → b ≡ semicolon_byte → Ok (at + 1) ≡ semicolon_from l p
+  semicolon_yes b f g = rw (e, eq-eqb (get_or l at 0) semicolon_byte (sym f ∙ g)) refl
+
+  pub semicolon_no : (b : ℕ) → b ≡ get_or l at 0 → (b ≡ semicolon_byte → ⊥) → Err (record { at = at }) ≡ semicolon_from l p
+  semicolon_no b f g = rw (e, ne_eqb (get_or l at 0) semicolon_byte (λ q. g (f ∙ q))) refl
+
+  pub blanks_past : (a : ℕ) → a ≡ past is_blank l at → Ok a ≡ blanks_from l p
+  blanks_past a f = rw e (ap Ok f)
+
+  pub end_yes : at ≡ length l → Ok at ≡ end_from l p
+  end_yes f = rw (e, eq-eqb at (length l) f) refl
+
+  pub end_no : (q : ℕ) → q ≡ at → (at ≡ length l → ⊥) → Err (record { at = q }) ≡ end_from l p
+  end_no q g f = rw (e, ne_eqb at (length l) f, g) refl
+
+-- a subtree with all brackets left, from where a reader stands
+pub reads_at : (r : Reader) (d : ℕ) (kept : Kept) (row : List ℕ) (marks : List Standing) (p : Result ℕ Stop) (kept' : Kept)
+    (row' : List ℕ) (marks' : List Standing) (o : Result Unit Stop) (r' : Reader) → d ≡ most_open
+    → Laid r.text.now r.at d kept row marks p kept' row' marks' → Goes r o r' p → Reads r kept row marks o r' kept' row' marks'
+reads_at r d kept row marks p kept' row' marks' o r' f L g =
+    (p, subst (λ (i : ℕ). Laid r.text.now r.at i kept row marks p kept' row' marks') f L, g)
 
 -- ---- what follows the tree
 

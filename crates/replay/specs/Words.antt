@@ -1,5 +1,5 @@
 -- Words of 16 bits as bytes, low byte first. Assumes nothing.
-use Rattle.std.specs.Prelude.{ℕ, ◌+◌, ◌*◌, ◌/◌, ◌%◌, ◌≤◌, List, [], ◌∷◌, length, get_or}
+use Rattle.std.specs.Prelude.{ℕ, ◌+◌, ◌*◌, ◌/◌, ◌%◌, ◌≤◌, List, [], ◌∷◌, length, get_or, set}
 
 -- how many words a buffer has at most, and that a list has no more
 abbrev pub most_words : ℕ
@@ -26,3 +26,7 @@ words_of (lo ∷ hi ∷ s) = (lo + 256 * hi) ∷ words_of s
 -- the word that stands i words from the start of the bytes
 abbrev pub word_at : List ℕ → ℕ → ℕ
 word_at s i = get_or s (2 * i) 0 + 256 * get_or s (2 * i + 1) 0
+
+-- the bytes with the word w put i words from their start
+abbrev pub word_put : List ℕ → ℕ → ℕ → List ℕ
+word_put s i w = set (set s (2 * i) (w % 256)) (2 * i + 1) (w / 256)

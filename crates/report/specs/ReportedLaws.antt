@@ -1,13 +1,14 @@
 -- What a report answers where the study is known to be well formed, and the rows that it leaves where it is accepted. Assumes nothing.
-use Rattle.std.specs.Prelude.{ℕ, ◌<◌, ◌≡◌, List, length}
+use Rattle.std.specs.Prelude.{ℕ, ◌≤◌, ◌<◌, ◌≡◌, List, length}
 use Rattle.trees.specs.Checks.{accepted, ◌⊳◌, row_words}
 use Rattle.trees.proofs.ChainLaws.{chain_go}
 use Rattle.trees.specs.Reporting.{agreed, supports_of}
 use Rattle.trees.specs.Thresholds.{InRange, threshold}
 use Rattle.trees.specs.Majority.{majority}
-use Rattle.runs.specs.Words.{samples, in_force, runs}
+use Rattle.runs.specs.Words.{header_words, samples, in_force, runs}
 use Rattle.runs.specs.Formed.{Formed}
 use Rattle.runs.proofs.FormedLaws.{formed_from}
+use Rattle.runs.proofs.SlotLaws.{formed_long}
 use Rattle.runs.specs.Calls.{check2}
 use Rattle.runs.specs.Reports.{report_formed_checks, report_checks, reported}
 use Rattle.runs.proofs.ReportLaws.{reported_rows, reported_accepts}
@@ -23,6 +24,10 @@ module _ (w : List ℕ) (p : ℕ) (a s : List ℕ) where
     -- the study of an accepted report is well formed
     pub report_study : Formed w
     report_study = ((reported_accepts w p a s).0 e).formed
+
+    -- and has its header
+    pub report_header : header_words ≤ length w
+    report_header = formed_long report_study
 
     -- what an accepted report asks for, by the numbers that were read
     pub report_asks : (n k t : ℕ) → n ≡ samples w → k ≡ in_force w → t ≡ threshold p

@@ -72,6 +72,9 @@ past_next t l p a e = rw e (λ h. rw⁻¹ (get_or-drop p l (lead t (drop p l)) 0
 
 -- ---- a run that is passed by
 
+pub skip_start : (t : ℕ → Bool) (l : List ℕ) (p : ℕ) → Skipping t l p p
+skip_start t l p = record { same = refl }
+
 module _ (t : ℕ → Bool) (l : List ℕ) (p i : ℕ) (s : Skipping t l p i) where
   -- at a byte that passes, at one that does not, and at the end
   pub skip_on : i < length l → true ≡ t (get_or l i 0) → Skipping t l p (i + 1)
@@ -80,10 +83,14 @@ module _ (t : ℕ → Bool) (l : List ℕ) (p i : ℕ) (s : Skipping t l p i) wh
   pub skip_end : false ≡ t (get_or l i 0) → i ≡ past t l p
   skip_end e = sym (s.same ∙ past_stop t l i (sym e))
 
-  pub skip_past : length l ≤ i → (p ≤ length l → i ≤ length l) → max p (length l) ≡ past t l p
-  skip_past h k = ⊎_elim
+  pub skip_past : length l ≤ i → i ≡ past t l p
+  skip_past h = sym (s.same ∙ past_end t l i h)
+
+  -- where a range over the text ends
+  pub skip_all : length l ≤ i → (p ≤ length l → i ≤ length l) → max p (length l) ≡ past t l p
+  skip_all h k = ⊎_elim
       (λ q. let w = ltb-true p (length l) q in
-      let e : max p (length l) ≡ i = omega arith in e ∙ sym (s.same ∙ past_end t l i h))
+      let e : max p (length l) ≡ i = omega arith in e ∙ skip_past h)
       (λ q. let w = ltb-false p (length l) q in
       let e : max p (length l) ≡ p = omega arith in e ∙ sym (past_end t l p w)) (decide (ltb p (length l)))
 

@@ -3,7 +3,7 @@ use Rattle.std.proofs.Common.{rules}
 use Rattle.std.proofs.lemmas.Result.{err_from_is_err_and}
 use Rattle.reader.specs.Steps.{Told}
 use Rattle.reader.specs.StepLaws.{composed}
-use Rattle.reader.specs.ResultLaws.{lies_form, told, lies_18, lies_accepted}
+use Rattle.reader.specs.ResultLaws.{lies_stopped, told, lies_18, lies_accepted}
 use Rattle.reader.proofs.reading.lay_text.Goals.{In_ok-map_err}
 use Rattle.reader.proofs.reading.lay_text.Goals as goal
 
@@ -15,7 +15,7 @@ pub returns-in_err-map_err : goal.returns-in_err-map_err
 returns-in_err-map_err c =
     let p = err_from_is_err_and c.from_residual.result c.from_residual.ensures.1 in
     rw (p.1, p.2)
-    (lies_form _ _ _ _ _ _ _ _ c.whole.result _ _ (composed _ _ _ _ _ _ _ c.whole.result c.whole.ensures) c.in_err-map_err.ensures.cases
+    (lies_stopped _ _ _ _ _ _ _ _ c.whole.result _ _ (composed _ _ _ _ _ _ _ c.whole.result c.whole.ensures) c.in_err-map_err.ensures.cases
     (λ q h. search rules))
 
 pub returns-in_err-check_samples : goal.returns-in_err-check_samples
