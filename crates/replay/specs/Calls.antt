@@ -1,5 +1,5 @@
 -- What the head of a request says and what the head of a reply holds. Assumes nothing.
-use Rattle.std.specs.Prelude.{ℕ, ◌/◌, ◌%◌, List, [], ◌∷◌, get_or, Ok, Err}
+use Rattle.std.specs.Prelude.{ℕ, ◌/◌, ◌%◌, List, [], ◌∷◌, get_or, Option, None, Some, Ok, Err}
 use Rattle.judge.specs.declared.Refusal.{Refusal}
 use Rattle.judge.specs.Verdicts.{Answer, number_of}
 use Rattle.compare.specs.Comparisons.{Compared}
@@ -9,17 +9,11 @@ use Rattle.replay.specs.declared.calls.Op.TheVariants as op
 use Rattle.replay.specs.declared.calls.Head.{Head}
 use Rattle.replay.specs.declared.calls.Reply.{Reply}
 
--- the number of a call
-abbrev pub op_number : Op → ℕ
-op_number op.Open = 1
-op_number op.Add = 2
-op_number op.Withdraw = 3
-op_number op.Report = 4
-op_number op.Judge = 5
-op_number op.Renumber = 6
-op_number op.Compare = 7
-op_number op.Read = 8
-op_number op.Write = 9
+-- the call with a number, if there is one; they are numbered from 1 on
+abbrev pub op_at : ℕ → Option Op
+op_at number = get_or
+    (None ∷ Some op.Open ∷ Some op.Add ∷ Some op.Withdraw ∷ Some op.Report ∷ Some op.Judge ∷ Some op.Renumber ∷ Some op.Compare
+    ∷ Some op.Read ∷ Some op.Write ∷ []) number None
 
 -- a request's six words: the call, its two numbers, the lengths of its buffers
 abbrev pub head_of : List ℕ → Head

@@ -13,9 +13,9 @@
 // A text stands in words, one byte in each; a word that is no byte is as an unknown op.
 //
 // A call that is added has a line above, a variant below, an arm in `op_of` and in `called` and a function of its own.
-ghost use Rattle.std.specs.Prelude.{◌≡◌, length, IfSome};
+ghost use Rattle.std.specs.Prelude.{◌≡◌, length};
 ghost use Rattle.replay.specs.Words.{Short, Roomy};
-ghost use Rattle.replay.specs.Calls.{op_number, head_of, counts_reply, refused_reply, reply_to, reply_counts, reply_length, reply_words};
+ghost use Rattle.replay.specs.Calls.{op_at, head_of, counts_reply, refused_reply, reply_to, reply_counts, reply_length, reply_words};
 
 use crate::texts::{narrow, widen};
 use compare::Comparison;
@@ -64,7 +64,7 @@ pub struct Reply {
 
 // The call with a number, if there is one.
 fn op_of(number: u16) -> Option<Op>
-    ensures { IfSome result (λ op. op_number op ≡ number) }
+    ensures { result ≡ op_at number }
 {
     match number {
         1 => Some(Op::Open),
