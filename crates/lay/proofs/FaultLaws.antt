@@ -74,17 +74,17 @@ many : ℕ → Standing → Standing
 many zero v = v
 many (suc k) v = many k (once_more v)
 
-many_repeated : (k : ℕ) → many k Repeated ≡ Repeated
+many_two : (k : ℕ) → many k Repeated ≡ Repeated
 unfolding many
-many_repeated zero = refl
-many_repeated (suc k) = many_repeated k
+many_two zero = refl
+many_two (suc k) = many_two k
 
 -- counted so, a number comes to 0 or 1 exactly where it stands never or once
 many_is : (k c : ℕ) → c ≤ 1 → eqb (told_by (many k Never)) c ≡ eqb k c
 unfolding many
 many_is zero c h = refl
 many_is (suc zero) c h = refl
-many_is (suc (suc k)) c h = rw (many_repeated k) (ne_eqb 2 c (λ e. omega arith) ∙ sym (ne_eqb (suc (suc k)) c (λ e. omega (arith, e))))
+many_is (suc (suc k)) c h = rw (many_two k) (ne_eqb 2 c (λ e. omega arith) ∙ sym (ne_eqb (suc (suc k)) c (λ e. omega (arith, e))))
 
 tally_many : (xs : List ℕ) (marks : List Standing) (x : ℕ) → x < length marks
     → get_or (tally xs marks) x Never ≡ many (times x xs) (get_or marks x Never)
