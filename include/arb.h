@@ -166,13 +166,13 @@ uint64_t arb_read_newick(size_t n, const uint8_t *text, size_t text_length, uint
 
 /* Writing Newick: puts the text of a row, in any numbering, to the front of `text`, and answers how many bytes it has (ARB_LENGTH). Nothing is
    put behind its semicolon: the bytes there stay as they were. Reading it gives the row in standard numbering. `row` is not written.
-   Refusals: 1, 3 for the row, 5 to 10, 3 for the text. Stack: 58,368 bytes. */
+   Refusals: 1, 3 for the row, 5 to 10, 3 for the text. Stack: 33,792 bytes. */
 uint64_t arb_write_newick(size_t n, const uint16_t *row, size_t row_length, uint8_t *text, size_t text_length);
 
 /* The same with supports: behind each closing bracket but the last stands, in decimal, the word that `support`, 2n words, has for its node,
    which is word 1+v for node v of this row: of a report, say, the support row beside the agreed row. These words may be any; the others are
    not looked at. `support` is not written.
-   Refusals: 1, 3 for either row, 5 to 10, 3 for the text. Stack: 58,368 bytes. */
+   Refusals: 1, 3 for either row, 5 to 10, 3 for the text. Stack: 33,792 bytes. */
 uint64_t arb_write_newick_supports(size_t n, const uint16_t *row, size_t row_length, const uint16_t *support, size_t support_length,
     uint8_t *text, size_t text_length);
 
