@@ -1,5 +1,6 @@
 #!/usr/bin/env bash
-# Builds the C test and the examples of docs/USING.md with the kit's clang and ld.lld, runs them, and compares what the examples write.
+# Builds the C test and the examples of docs/USING.md with the kit's clang and ld.lld, runs them, and compares what the examples write; and links
+# the library with no C library.
 #
 #   tests/c.sh
 #
@@ -48,8 +49,21 @@ run_example() {
   fi
 }
 
+# link_alone: the library links with memcpy and memset alone, and no C library. Its archive has been built by then.
+link_alone() {
+  local tools
+  tools=$(tests/toolchain) || { fail "the kit's tools"; return; }
+  if "$tools/bin/clang" --target=x86_64-unknown-linux-gnu -std=c99 -O2 -Wall -Wextra -Werror -ffreestanding -nostdinc -isystem tests/c/libc -Iinclude \
+      -c tests/c/alone.c -o target/c/alone.o && "$tools/bin/ld.lld" -e main -o target/c/alone target/c/alone.o target/staticlib/libarb.a; then
+    passed=$((passed + 1))
+  else
+    fail "linking with memcpy and memset alone"
+  fi
+}
+
 mkdir -p target/c
 run_test
+link_alone
 examples=$(grep -c '^```c$' docs/USING.md)
 [[ $examples -gt 0 ]] || fail "docs/USING.md has no example"
 for ((i = 1; i <= examples; i++)); do run_example "$i"; done

@@ -12,7 +12,7 @@ ghost use Rattle.sides.specs.Counters.{tally_at};
 ghost use Rattle.counters.specs.Rounds.{Tied};
 ghost use Rattle.candidates.specs.Candidates.{Candidates, Enough, Agreed};
 
-use count::{Held, bare, holders, marks, references};
+use count::{Held, bare, copy, holders, marks, references};
 use counters::round;
 use judge::{StandardRow, nodes};
 use merge::{Side, merge_carried};
@@ -27,7 +27,7 @@ fn take_in(study: Held, i: usize, row: &mut [u16], counter: &mut Table, spare: &
     let mut fresh: Table = [0; TABLE];
     let tree = StandardRow { n: study.n, row };
     round(study.run_row(i), tree, counter, &mut fresh, spare);
-    row.copy_from_slice(spare);
+    copy(spare, row);
     *counter = fresh;
 }
 
@@ -72,7 +72,7 @@ fn enough(study: Held, t: usize, row: &mut [u16], spare: &mut [u16])
     ensures { Enough study.entry.n study.entry.words.now t row.new }
 {
     if references(t, study.k) == 1 {
-        row.copy_from_slice(study.run_row(0).row);
+        copy(study.run_row(0).row, row);
         return;
     }
     candidates(study, row, spare);

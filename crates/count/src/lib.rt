@@ -8,5 +8,5 @@ mod rule;
 
 pub use held::Held;
 pub use holding::holders;
-pub use plain::{agreed_row, bare};
+pub use plain::{agreed_row, bare, copy};
 pub use rule::{marks, references};

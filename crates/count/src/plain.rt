@@ -41,6 +41,16 @@ pub fn bare(n: usize, out: &mut [u16])
     }
 }
 
+// Copies all words. Word by word: the slice's own way to copy is a call of `memmove`, which the archive for C is not to need.
+pub fn copy(from: &[u16], to: &mut [u16])
+    requires { length to.old ≡ length from.now }
+    ensures { to.new ≡ from.now }
+{
+    for (w, word) in to.iter_mut().enumerate() {
+        *word = from[w];
+    }
+}
+
 // Merges what is shown of run i at threshold t into what is accepted.
 #[tactic(auto, using(passes::proofs::StandardRows::standard_rows))]
 fn take_in(study: Held, t: usize, i: usize, out: &mut [u16], spare: &mut [u16])
@@ -58,7 +68,7 @@ fn take_in(study: Held, t: usize, i: usize, out: &mut [u16], spare: &mut [u16])
         row: out,
     };
     merge(tree, &[true; TABLE], run, &keep, spare);
-    out.copy_from_slice(spare);
+    copy(spare, out);
 }
 
 // The agreed row at threshold t; `spare` is a buffer to work in.

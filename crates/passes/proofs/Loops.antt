@@ -6,8 +6,8 @@ use mathlib.Core.List.{List}
 use native.Mathlib.Omega.{arith}
 use native.Mathlib.Numerals.{add-one}
 use lib.Dec.{eqb}
-use lib.ListN.{length, get_or, set, take, replicate, length-replicate, get_or-append, get_or-replicate}
-use Rattle.std.proofs.lemmas.List.{length-append, get_or-append_right, get_or-take, length-take-le}
+use lib.ListN.{length, get_or, set, take, drop, replicate, length-replicate, get_or-append, get_or-replicate}
+use Rattle.std.proofs.lemmas.List.{length-append, get_or-append_right, get_or-take, length-take-le, take-append-drop}
 use borrow.Rule.Slice.PartMut.{put_mid}
 use mathlib.Core.List.{◌++◌}
 use Rattle.trees.proofs.NeverLaws.{side}
@@ -55,6 +55,13 @@ module _ (n w m : ℕ) (old y : List ℕ) (all : w ≡ m) where
   pub seeded_keys : (key x : List ℕ) → n ≤ length key → x ≡ take n key → y ≡ replicate (w - n) root_mark
       → Tabled (seeded n (entry key) root_mark) 0 m (put_mid n (w - n) (x ++ old) y)
   seeded_keys key x l e a = seeded_twice root_mark (entry key) x (rw e (length-take-le n key l)) (λ s h. rw e (get_or-take n key s 0 h)) a
+
+-- the same where the samples' keys stand in the table already
+pub seeded_front : (n w m e : ℕ) (k : ℕ → ℕ) (t y : List ℕ) → w ≡ m → n ≤ length t → Tabled k 0 n t → y ≡ replicate (w - n) e
+    → Tabled (seeded n k e) 0 m (put_mid n (w - n) t y)
+seeded_front n w m e k t y all h i a =
+    rw (take-append-drop n t) at (seeded_twice n w m (drop n t) y all e k (take n t) (length-take-le n t h)
+    (λ s b. get_or-take n t s 0 b ∙ i.is s zero-le b) a)
 
 module _ (n : ℕ) (r : List ℕ) (ok : Falls n r) where
   pub passing_step : (op : ℕ → ℕ → ℕ) (e : ℕ) → Folds op e → (k : ℕ → ℕ) (d : ℕ) (t t' : List ℕ) (v p : ℕ) → d + 1 < nodes r → Stepped n r d v p

@@ -34,6 +34,17 @@ fn sizes(row: FallingRow, size: &mut Table, off: &mut Table)
     }
 }
 
+// The keys of the samples, at the front of a table. Word by word: the slice's own way to copy is a call of `memmove`, which the archive for C is
+// not to need.
+fn keys(n: usize, key: &Table, out: &mut Table)
+    requires { n ≤ most_samples }
+    ensures { Tabled (entry key.now) 0 n out.new }
+{
+    for s in 0..n {
+        out[s] = key[s];
+    }
+}
+
 // The least key of the samples of each node's group.
 pub fn least(row: FallingRow, key: &Table, out: &mut Table)
     requires { Keys row.n key.now }
@@ -41,7 +52,7 @@ pub fn least(row: FallingRow, key: &Table, out: &mut Table)
 {
     let n = row.n;
     let m = nodes(row.row);
-    out[..n].copy_from_slice(&key[..n]);
+    keys(n, key, out);
     out[n..m].fill(NO_KEY);
     for i in 0..m - 1 {
         let t = step(row, m, i);

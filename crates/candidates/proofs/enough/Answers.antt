@@ -14,13 +14,13 @@ pub returns-then-references-eq1 : goal.returns-then-references-eq1
 returns-then-references-eq1 c =
     let s = c.args.study in
     first_enough s.words.now s.n s.k (held_study s) c.args.t c.requires.0 c.requires.1 (omega (arith, c.references.ensures)) _
-    (c.copy_from_slice.ensures.after ∙ c.run_row.ensures.row)
+    (c.copy.ensures ∙ c.run_row.ensures.row)
 
 pub returns : goal.returns
 returns c =
     let s = c.args.study in
     candidates_enough s.words.now s.n s.k (held_study s) c.args.t c.requires.0 c.requires.1 _ c.candidates.ensures
 
-pub copy_from_slice-requires : goal.copy_from_slice-requires
-copy_from_slice-requires c =
+pub copy-requires : goal.copy-requires
+copy-requires c =
     c.requires.2 ∙ sym (standard_over c.run_row.result.standard c.run_row.ensures.samples).valid.words

@@ -22,5 +22,5 @@ pub returns : goal.returns
 returns c =
     let a = c.args in
     let s = a.study in
-    rw c.copy_from_slice.ensures.after (take_step s.words.now s.n s.k (held_study s) a.i c.requires.0 _ _ _ c.requires.1
+    rw c.copy.ensures (take_step s.words.now s.n s.k (held_study s) a.i c.requires.0 _ _ _ c.requires.1
     c.run_row.ensures.row _ _ c.round.ensures)

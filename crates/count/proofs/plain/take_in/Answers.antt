@@ -36,8 +36,8 @@ merge-requires c =
       c.requires.2,
     )
 
-pub copy_from_slice-requires : goal.copy_from_slice-requires
-copy_from_slice-requires c =
+pub copy-requires : goal.copy-requires
+copy-requires c =
     let s = c.args.study in
     let some : 0 < s.k = omega (arith, c.requires.0) in
     ap length c.requires.1 ∙ (accepted_standard s.words.now s.n s.k c.args.t (held_study s) some c.requires.3 c.args.i).valid.words
@@ -47,5 +47,5 @@ pub returns : goal.returns
 returns c =
     let s = c.args.study in
     let some : 0 < s.k = omega (arith, c.requires.0) in
-    c.copy_from_slice.ensures.after ∙ c.merge.ensures ∙ accepted_step s.words.now s.n s.k c.args.t (held_study s) some c.requires.3 c.args.i
+    c.copy.ensures ∙ c.merge.ensures ∙ accepted_step s.words.now s.n s.k c.args.t (held_study s) some c.requires.3 c.args.i
     _ _ _ _ _ c.requires.0 c.requires.1 c.run_row-run.ensures.row c.holders.ensures c.nodes.ensures c.marks.ensures

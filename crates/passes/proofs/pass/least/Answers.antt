@@ -1,5 +1,5 @@
 -- `passes::pass::least` meets its contract: after i steps the table is that stage of the pass. Assumes nothing.
-use Rattle.passes.proofs.Loops.{passing_step, seeded_keys}
+use Rattle.passes.proofs.Loops.{passing_step, seeded_front}
 use Rattle.trees.specs.Rows.{root_mark}
 use Rattle.trees.specs.Tables.{entry}
 use Rattle.trees.proofs.PassLaws.{stage_start, stage_end}
@@ -13,7 +13,7 @@ pub loop-i-init : goal.loop-i-init
 loop-i-init c =
     stage_start c.args.row.n c.args.row.row.now c.args.row.falls min root_mark (entry c.args.key.now) _
     (λ s h. let k = c.requires.low s h in omega (arith, c.args.row.falls.most))
-    (seeded_keys c.args.row.n c.nodes-m.result _ _ _ c.nodes-m.ensures c.args.key.now _ (omega (arith, c.args.row.falls.most)) c.copy_from_slice.ensures.after (search rules))
+    (seeded_front c.args.row.n c.nodes-m.result _ root_mark (entry c.args.key.now) _ _ c.nodes-m.ensures (omega (arith, c.args.row.falls.most)) c.keys.ensures (search rules))
 
 pub loop-i-preserved : goal.loop-i-preserved
 loop-i-preserved c =
