@@ -32,7 +32,7 @@ fn tree_line(tree: StandardRow, k: usize, support: &[u16], i: usize, out: &mut [
     if i == 0 {
         return put_head(tree.n, k, out);
     }
-    put_node(tree, support, tree.n + i - 1, out)
+    put_node(tree.n, tree.row, support, tree.n + i - 1, out)
 }
 
 // Line i.

@@ -23,10 +23,10 @@ pub record ReadyAt (l : List ℕ) (at : ℕ) (kept : Kept) : Type 0 where
 abbrev pub Ready : Reader → Kept → Type 0
 Ready r kept = ReadyAt r.text.now r.at kept
 
--- a reader goes on over its text as far as p says, or stops
+-- a reader goes on over its text as far as p says, or stops and stays where it is
 abbrev pub Goes : Reader → Result Unit Stop → Reader → Result ℕ Stop → Type 0
 Goes r (Ok _) r' p = (r'.text ≡ r.text) × (p ≡ Ok r'.at)
-Goes r (Err q) r' p = p ≡ Err q
+Goes r (Err q) r' p = (r'.text ≡ r.text) × (r'.at ≡ r.at) × (p ≡ Err q)
 
 -- a subtree is read from where a reader stands
 abbrev pub Reads : Reader → Kept → List ℕ → List Standing → Result Unit Stop → Reader → Kept → List ℕ → List Standing → Type 0

@@ -118,6 +118,7 @@ pub fn report(
     ensures agreed { agreed.new ≡ (reported words.now p agreed.old support.old).agreed_row }
     ensures support { support.new ≡ (reported words.now p agreed.old support.old).support_row }
 {
-    study_given(words)?;
-    report_formed(words, p, agreed, support)
+    report_checks(words, p, agreed, support)?;
+    both_rows(words, p, agreed, support);
+    Ok(())
 }

@@ -3,6 +3,7 @@ ghost use Rattle.std.specs.Prelude.{◌≡◌, false, [], ◌∷◌, ◌++◌, m
 ghost use Rattle.trees.specs.Lists.{range, filter};
 ghost use Rattle.trees.specs.Rows.{nodes, parent, group_at};
 ghost use Rattle.trees.specs.Checks.{row_words, most_samples};
+ghost use Rattle.trees.specs.Valid.{Standard};
 ghost use Rattle.ascii.specs.Decimal.{decimal};
 ghost use Rattle.text.specs.Lines.{space, spaced, parent_field, samples_of, node_line};
 ghost use Rattle.text.specs.Marks.{Marked, parent_marked, mark_count};
@@ -84,12 +85,11 @@ fn put_front(v: usize, p: usize, support: usize, out: &mut [u8]) -> usize
 }
 
 // The line of inner node v: its number, its parent, its support and its samples (RULES 9.5).
-#[tactic(auto, using(crate::proofs::StandardRows::standard_long, crate::proofs::StandardRows::standard_high, crate::proofs::StandardRows::standard_most))]
-pub fn put_node(tree: StandardRow, support: &[u16], v: usize, out: &mut [u8]) -> usize
-    requires { (length support.now ≡ row_words tree.n) × (tree.n ≤ v) × (v < nodes tree.row.now) × (line_bytes ≤ length out.old) }
-    ensures { Written (node_line tree.entry.n tree.entry.row.now support.now v) out.old out.new result }
+pub fn put_node(n: usize, row: &[u16], support: &[u16], v: usize, out: &mut [u8]) -> usize
+    requires { Standard n row.now × (length support.now ≡ row_words n) × (n ≤ v) × (v < nodes row.now) × (line_bytes ≤ length out.old) }
+    ensures { Written (node_line n row.now support.now v) out.old out.new result }
 {
-    let front = put_front(v, parent(tree.row, v), usize::from(support[v + 1]), out);
-    let end = put_group(tree, v, out, front);
+    let front = put_front(v, parent(row, v), usize::from(support[v + 1]), out);
+    let end = put_group(StandardRow { n, row }, v, out, front);
     put_byte(b'\n', out, end)
 }

@@ -23,7 +23,7 @@ fn write_valid(tree: ValidRow, words: &[u16], text: &mut [u8]) -> Result<usize, 
     ensures text_after { text.new
         ≡ (room_outcome (text_of tree.entry.n tree.entry.row.now words.now) text.old).words }
 {
-    if text.len() < text_length(tree, words) {
+    if text.len() < text_length(tree.n, tree.row, words) {
         return Err(Refusal::new(Reason::Words, 0));
     }
     Ok(put_row(tree, words, text))

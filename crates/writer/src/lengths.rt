@@ -1,11 +1,12 @@
 // How long the text of a row is: what its nodes add, one by one.
 ghost use Rattle.std.specs.Prelude.{◌≡◌, ◌+◌, ◌<◌, ◌≤◌, length};
 ghost use Rattle.trees.specs.Checks.{most_samples};
+ghost use Rattle.trees.specs.Valid.{Valid};
 ghost use Rattle.newick.specs.RowText.{mark_text};
 ghost use Rattle.writer.specs.Lengths.{wanted_by, text_of, bytes_of, word_most, node_most};
 ghost use Rattle.writer.specs.Putting.{Supports, HasWord};
 
-use judge::{ROOT_MARK, ValidRow, nodes, parent};
+use judge::{ROOT_MARK, nodes, parent};
 use put::width;
 
 // What stands before a node: an opening bracket or a comma. The root has the semicolon instead, behind it.
@@ -38,14 +39,13 @@ fn node_bytes(n: usize, row: &[u16], words: &[u16], v: usize) -> usize
 
 // The length of the text of a valid row, with the words of a support row or with none (RULES 14).
 // Where none are wanted `words` is empty: so the promise reads, which may not change.
-#[tactic(auto, using(row::proofs::ValidRows::valid_long))]
-pub fn text_length(tree: ValidRow, words: &[u16]) -> usize
-    requires { Supports tree.n words.now }
-    ensures { result ≡ length (text_of tree.entry.n tree.entry.row.now words.now) }
+pub fn text_length(n: usize, row: &[u16], words: &[u16]) -> usize
+    requires { Valid n row.now × Supports n words.now }
+    ensures { result ≡ length (text_of n row.now words.now) }
 {
     let mut bytes = 0;
-    for v in 0..nodes(tree.row) {
-        bytes += node_bytes(tree.n, tree.row, words, v);
+    for v in 0..nodes(row) {
+        bytes += node_bytes(n, row, words, v);
     }
     bytes
 }

@@ -25,7 +25,7 @@ pub overflow_add-tree : goal.overflow_add-tree
 overflow_add-tree c = omega (arith, some (search rules))
 
 pub put_node-requires : goal.put_node-requires
-put_node-requires c = (c.requires.support_words, omega (arith, some (goal.at.put_node-requires c).Start), omega (arith, some (goal.at.put_node-requires c).Start), c.requires.i_in_bounds.1)
+put_node-requires c = (standard_to _ _ c.args.tree.standard, c.requires.support_words, omega (arith, some (goal.at.put_node-requires c).Start), omega (arith, some (goal.at.put_node-requires c).Start), c.requires.i_in_bounds.1)
 
 pub returns : goal.returns
 returns c =

@@ -3,4 +3,4 @@ use Rattle.quick.proofs.MarkingLaws.{marked_none}
 use Rattle.quick.proofs.climbing.climbing.Goals as goal
 
 pub climbing_marked-requires : goal.climbing_marked-requires
-climbing_marked-requires c = marked_none _ c.args.row.laid.fits
+climbing_marked-requires c = marked_none _

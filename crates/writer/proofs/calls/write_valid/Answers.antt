@@ -1,10 +1,14 @@
 -- `writer::calls::write_valid` refuses a text that is longer than the buffer, and puts it else. Assumes nothing.
 use native.Mathlib.Omega.{arith}
+use Rattle.judge.proofs.KnownRows.{known_valid}
 use Rattle.newick.specs.RowText.{written}
 use Rattle.writer.specs.Lengths.{wanted_by}
 use Rattle.writer.specs.WritingsLaws.{room_short}
 use Rattle.writer.proofs.AnswerLaws.{room_put}
 use Rattle.writer.proofs.calls.write_valid.Goals as goal
+
+pub text_length-requires : goal.text_length-requires
+text_length-requires c = (known_valid _ _ c.args.tree.valid, c.requires)
 
 pub returns-then-text-text_length : goal.returns-then-text-text_length
 returns-then-text-text_length c =

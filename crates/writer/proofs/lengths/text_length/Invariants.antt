@@ -3,4 +3,4 @@ use Rattle.writer.specs.Lengths.{wanted_by, BytesLeft}
 use Rattle.writer.proofs.lengths.text_length.Given as goal
 
 abbrev pub invariant-loop-v : goal.invariant-loop-v
-invariant-loop-v l = BytesLeft l.tree.n l.tree.row.now (wanted_by l.words) l.v l.bytes
+invariant-loop-v l = BytesLeft l.n l.row (wanted_by l.words) l.v l.bytes
