@@ -42,7 +42,7 @@ pub fn pack(answer: Result<(), Refusal>) -> u64
 {
     match answer {
         Ok(()) => 0,
-        Err(refusal) => pack_refusal(refusal.reason.number(), refusal.place),
+        Err(refused) => pack_refusal(refused.reason.number(), refused.place),
     }
 }
 

@@ -1,4 +1,5 @@
 -- `count::holding::holders` counts run by run. Assumes nothing.
+use Prim.Native.Nat.{◌<◌}
 use mathlib.Core.Path.{sym, ap, ◌∙◌}
 use native.Mathlib.Omega.{arith}
 use Rattle.trees.specs.Rows.{holds}
@@ -29,9 +30,10 @@ loop-j-preserved c =
     let q = c.args.reference in
     let o = held_study s in
     let d : Run = run_at s.n s.words.now c.loop-j.j in
+    let stands : c.loop-j.j < s.k = omega (arith, c.loop-j-test.true) in
     counting_step (holds q.n) q.n (runs s.words.now) q.row.now c.loop-j.j d _ c.loop-j.holders _
-    (rw (study_length _ _ _ o) c.loop-j-test.true)
-    (ap (λ (run : Run). run.row) (study_run _ _ _ o c.loop-j.j d c.loop-j-test.true) ∙ sym c.run_row.ensures.row)
+    (rw (study_length _ _ _ o) stands)
+    (ap (λ (run : Run). run.row) (study_run _ _ _ o c.loop-j.j d stands) ∙ sym c.run_row.ensures.row)
     c.loop-j.invariant (rw c.of-chart.ensures.row at c.count_run.ensures)
 
 pub returns : goal.returns
